@@ -1,0 +1,72 @@
+-- 01, "Reading the data": what each number of the command table may be, and what an absent one is.
+use Prim.Native.Nat.{ℕ}
+use mathlib.Core.Bool.{Bool, false, _&&_}
+use lib.Dec.{leb}
+use Rattle.settings.specs.Units.{rateOf}
+use Rattle.settings.specs.declared.Range.{Range}
+use Rattle.settings.specs.declared.Settings.{Settings}
+use Rattle.settings.specs.declared.Quantity.{Quantity}
+use Rattle.settings.specs.declared.Quantity.the-variants.{Home, Increments, Nanolitres, Slope, Backlash, Compensation, Choice, Delay, Passes}
+use Rattle.settings.specs.declared.Pace.{Pace}
+use Rattle.settings.specs.declared.Pace.the-variants.{Top, Start, Cutoff}
+
+-- least and most both belong to it
+infix 10 _to_
+abbrev pub _to_ : ℕ → ℕ → Range
+a to b = record { least = a; most = b }
+
+unfoldable pub within : Range → ℕ → Bool
+within range n = leb (range .least) n && leb n (range .most)
+
+unfoldable pub rangeOf : Quantity → Range
+rangeOf Home = 100 to 20000  -- W, increments a second
+rangeOf Increments = 0 to 44000  -- A P D
+rangeOf Nanolitres = 0 to 1100000  -- A P D, 1100.000 µL
+rangeOf Slope = 1 to 80  -- L, both numbers
+rangeOf Backlash = 0 to 500  -- K
+rangeOf Compensation = 0 to 350  -- b
+rangeOf Choice = 0 to 1  -- the second number of A P D V v c b
+rangeOf Delay = 1 to 30000  -- M, milliseconds
+rangeOf Passes = 0 to 50000  -- G
+
+unfoldable pub usualOf : Quantity → ℕ
+usualOf Home = 6000
+usualOf Increments = 0
+usualOf Nanolitres = 0
+usualOf Slope = 20
+usualOf Backlash = 0
+usualOf Compensation = 0
+usualOf Choice = 0
+usualOf Delay = 10
+usualOf Passes = 0
+
+-- V, v and c in tenths of an increment a second
+unfoldable pub speedsOf : Pace → Range
+speedsOf Top = 1000 to 800000
+speedsOf Start = 1000 to 120000
+speedsOf Cutoff = 1000 to 800000
+
+-- and in nL a second
+unfoldable pub flowsOf : Pace → Range
+flowsOf Top = 2500 to 2000000
+flowsOf Start = 2500 to 300000
+flowsOf Cutoff = 2500 to 2000000
+
+-- "An absent speed is the default in increments, whichever unit is given": tenths
+unfoldable pub usualSpeed : Pace → ℕ
+usualSpeed Top = 80000
+usualSpeed Start = 10000
+usualSpeed Cutoff = 80000
+
+-- the settings of a fresh or reset controller
+unfoldable pub usualSettings : Settings
+usualSettings =
+    record {
+      top = usualSpeed Top;
+      start = usualSpeed Start;
+      cutoff = usualSpeed Cutoff;
+      acceleration = usualOf Slope;
+      deceleration = usualOf Slope;
+      backlash = usualOf Backlash;
+      rate = rateOf (usualOf Compensation) false;
+    }
