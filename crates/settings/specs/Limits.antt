@@ -18,7 +18,7 @@ a to b = record { least = a; most = b }
 unfoldable pub within : Range → ℕ → Bool
 within range n = leb (range .least) n && leb n (range .most)
 
-unfoldable pub rangeOf : Quantity → Range
+abbrev pub rangeOf : Quantity → Range
 rangeOf Home = 100 to 20000  -- W, increments a second
 rangeOf Increments = 0 to 44000  -- A P D
 rangeOf Nanolitres = 0 to 1100000  -- A P D, 1100.000 µL
@@ -29,7 +29,7 @@ rangeOf Choice = 0 to 1  -- the second number of A P D V v c b
 rangeOf Delay = 1 to 30000  -- M, milliseconds
 rangeOf Passes = 0 to 50000  -- G
 
-unfoldable pub usualOf : Quantity → ℕ
+abbrev pub usualOf : Quantity → ℕ
 usualOf Home = 6000
 usualOf Increments = 0
 usualOf Nanolitres = 0
@@ -41,25 +41,25 @@ usualOf Delay = 10
 usualOf Passes = 0
 
 -- V, v and c in tenths of an increment a second
-unfoldable pub speedsOf : Pace → Range
+abbrev pub speedsOf : Pace → Range
 speedsOf Top = 1000 to 800000
 speedsOf Start = 1000 to 120000
 speedsOf Cutoff = 1000 to 800000
 
 -- and in nL a second
-unfoldable pub flowsOf : Pace → Range
+abbrev pub flowsOf : Pace → Range
 flowsOf Top = 2500 to 2000000
 flowsOf Start = 2500 to 300000
 flowsOf Cutoff = 2500 to 2000000
 
 -- "An absent speed is the default in increments, whichever unit is given": tenths
-unfoldable pub usualSpeed : Pace → ℕ
+abbrev pub usualSpeed : Pace → ℕ
 usualSpeed Top = 80000
 usualSpeed Start = 10000
 usualSpeed Cutoff = 80000
 
 -- the settings of a fresh or reset controller
-unfoldable pub usualSettings : Settings
+abbrev pub usualSettings : Settings
 usualSettings =
     record {
       top = usualSpeed Top;
