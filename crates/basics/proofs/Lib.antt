@@ -1,1 +1,4 @@
 pub mod Rules
+pub mod Lists
+pub mod Over
+pub mod Digits

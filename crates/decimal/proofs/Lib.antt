@@ -1,0 +1,5 @@
+pub mod Trim
+pub mod Digits
+pub mod Scratch
+pub mod PlaceValue
+pub mod Examples

@@ -1,0 +1,17 @@
+-- What the private functions promise one another; no public contract cites it.
+use Prim.Native.Nat.{ℕ, _≤_}
+use mathlib.Core.Path.{_≡_}
+use mathlib.Core.List.{List, _++_}
+use lib.ListN.{length, drop}
+use Rattle.decimal.specs.Digits.{trim, digitsOf}
+
+-- r leading zeros are left out
+pub record Idle (ds : List ℕ) (r : ℕ) : Type 0 where
+  pub rest : drop r ds ≡ trim ds
+  pub within : r ≤ length ds
+
+-- n stands from r to `end`, and what follows is as it was
+pub record Before (n end : ℕ) (before : List ℕ) (r : ℕ) (after : List ℕ) : Type 0 where
+  pub from : drop r after ≡ digitsOf n ++ drop end before
+  pub long : length after ≡ length before
+  pub within : r ≤ end

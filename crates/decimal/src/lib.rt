@@ -1,0 +1,89 @@
+// Numbers written in decimal into a buffer that the caller lends: whole, with one decimal, with three.
+use basics::Put;
+ghost use mathlib.Core.Path.{_≡_};
+ghost use Prim.Native.Nat.{_-_, _≤_, _<_, _^_};
+ghost use lib.ListN.{length};
+ghost use Rattle.basics.specs.Lay.{Laid, over};
+ghost use Rattle.decimal.specs.Digits.{lastDigits, fixedOf};
+ghost use Rattle.decimal.specs.Scratch.{Idle, Before};
+
+// The last k digits of n, the last of them just before `end`.
+fn put_last(k: usize, n: u32, buf: &mut [u8], end: usize)
+    requires { ⌜ (k ≤ end) × (end ≤ length (now buf)) ⌝ }
+    ensures { λ _. ⌜ now (buf .exit) ≡ over (lastDigits k n) (end - k) (now (buf .entry)) ⌝ }
+{
+    let start = end - k;
+    let mut rest = n;
+    let mut i = end;
+    while start < i {
+        i -= 1;
+        let digit = 48 + rest % 10;
+        buf[i] = digit as u8;
+        rest /= 10;
+    }
+}
+
+// How many leading zeros a number is written without.
+fn idle_zeros(digits: &[u8]) -> usize
+    ensures { λ r. ⌜ Idle (now (digits .entry)) r ⌝ }
+{
+    let mut i = 0;
+    while i < digits.len() {
+        if digits[i] != 48 {
+            return i;
+        }
+        let next = i + 1;
+        if next == digits.len() {
+            return i;
+        }
+        i = next;
+    }
+    i
+}
+
+// n without leading zeros, its last digit just before `end`; where it begins.
+fn put_before(n: u32, buf: &mut [u8], end: usize) -> usize
+    requires { ⌜ (10 ≤ end) × (end ≤ length (now buf)) ⌝ }
+    ensures { λ r. ⌜ Before n end (now (buf .entry)) r (now (buf .exit)) ⌝ }
+{
+    put_last(10, n, buf, end);
+    let start = end - 10;
+    let idle = idle_zeros(&buf[start..end]);
+    start + idle
+}
+
+// n in units of 1 / unit, which is 10 ^ decimals.
+fn put_pointed(n: u32, unit: u32, decimals: usize, buf: &mut [u8], at: usize) -> Put
+    requires { ⌜ (unit ≡ 10 ^ decimals) × (0 < decimals) × (decimals ≤ 3) ⌝ }
+    ensures { λ r. ⌜ Laid (fixedOf decimals n) at (now (buf .entry)) r (now (buf .exit)) ⌝ }
+{
+    let mut scratch = [0u8; 14];
+    put_last(decimals, n, &mut scratch, 14);
+    let end = 13 - decimals;
+    scratch[end] = b'.';
+    let from = put_before(n / unit, &mut scratch, end);
+    basics::lay(&scratch[from..], buf, at)
+}
+
+// A whole number.
+pub fn put_whole(n: u32, buf: &mut [u8], at: usize) -> Put
+    ensures { λ r. ⌜ Laid (fixedOf 0 n) at (now (buf .entry)) r (now (buf .exit)) ⌝ }
+{
+    let mut scratch = [0u8; 10];
+    let from = put_before(n, &mut scratch, 10);
+    basics::lay(&scratch[from..], buf, at)
+}
+
+// Tenths, with one decimal: 80000 is `8000.0`.
+pub fn put_tenths(n: u32, buf: &mut [u8], at: usize) -> Put
+    ensures { λ r. ⌜ Laid (fixedOf 1 n) at (now (buf .entry)) r (now (buf .exit)) ⌝ }
+{
+    put_pointed(n, 10, 1, buf, at)
+}
+
+// Thousandths, with three decimals: 2503 is `2.503`.
+pub fn put_thousandths(n: u32, buf: &mut [u8], at: usize) -> Put
+    ensures { λ r. ⌜ Laid (fixedOf 3 n) at (now (buf .entry)) r (now (buf .exit)) ⌝ }
+{
+    put_pointed(n, 1000, 3, buf, at)
+}
