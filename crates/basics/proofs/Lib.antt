@@ -1,4 +1,5 @@
 pub mod Rules
+pub mod Choice
 pub mod Lists
 pub mod Over
 pub mod Digits

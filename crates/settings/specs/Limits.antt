@@ -1,6 +1,6 @@
 -- 01, "Reading the data": what each number of the command table may be, and what an absent one is.
-use Prim.Native.Nat.{ℕ}
-use mathlib.Core.Bool.{Bool, false, _&&_}
+use Prim.Native.Nat.{ℕ, _≤_}
+use mathlib.Core.Bool.{Bool, true, false, _&&_}
 use lib.Dec.{leb}
 use Rattle.settings.specs.Units.{rateOf}
 use Rattle.settings.specs.declared.Range.{Range}
@@ -58,6 +58,10 @@ usualSpeed Top = 80000
 usualSpeed Start = 10000
 usualSpeed Cutoff = 80000
 
+-- C, as the largest b makes it downwards and upwards
+abbrev pub rates : Range
+rates = rateOf (rangeOf Compensation .most) true to rateOf (rangeOf Compensation .most) false
+
 -- the settings of a fresh or reset controller
 abbrev pub usualSettings : Settings
 usualSettings =
@@ -70,3 +74,18 @@ usualSettings =
       backlash = usualOf Backlash;
       rate = rateOf (usualOf Compensation) false;
     }
+
+-- a number of a range, as a fact
+pub record Between (range : Range) (n : ℕ) : Type 0 where
+  pub least : range .least ≤ n
+  pub most : n ≤ range .most
+
+-- settings that the command table allows
+pub record Kept (s : Settings) : Type 0 where
+  pub top : Between (speedsOf Top) (s .top)
+  pub start : Between (speedsOf Start) (s .start)
+  pub cutoff : Between (speedsOf Cutoff) (s .cutoff)
+  pub acceleration : Between (rangeOf Slope) (s .acceleration)
+  pub deceleration : Between (rangeOf Slope) (s .deceleration)
+  pub backlash : Between (rangeOf Backlash) (s .backlash)
+  pub rate : Between rates (s .rate)

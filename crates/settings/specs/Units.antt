@@ -1,5 +1,5 @@
 -- 01, "Ticks, volume and motion" and "Reports": the arithmetic of speeds, delays, volumes and distances.
-use Prim.Native.Nat.{ℕ, _+_, _-_, _*_, _/_, min}
+use Prim.Native.Nat.{ℕ, _+_, _-_, _*_, _/_, min, _≤_}
 use mathlib.Core.Bool.{Bool}
 use lib.Dec.{ltb}
 use Rattle.basics.specs.Choice.{if_then_else_}
@@ -32,6 +32,11 @@ millionthsOf v C = if v .micro then v .amount * C else v .amount * 1000000
 -- "The goal is (exact + 500,000) / 1,000,000 rounded down"
 unfoldable pub goalOf : ℕ → ℕ
 goalOf exact = (exact + 500000) / 1000000
+
+-- a whole place within half an increment of an exact position
+pub record Near (place exact : ℕ) : Type 0 where
+  pub above : place * 1000000 ≤ exact + 500000
+  pub below : exact ≤ place * 1000000 + 500000
 
 -- "plunger × 1,000,000 / C nL, nearest, half up"
 unfoldable pub nanolitresOf : ℕ → ℕ → ℕ

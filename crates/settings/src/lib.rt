@@ -2,7 +2,7 @@
 pub mod units;
 
 ghost use mathlib.Core.Path.{_≡_};
-ghost use Rattle.settings.specs.Limits.{within, rangeOf, usualOf, speedsOf, flowsOf, usualSpeed, usualSettings};
+ghost use Rattle.settings.specs.Limits.{_to_, within, rangeOf, usualOf, speedsOf, flowsOf, usualSpeed, usualSettings};
 
 // The three speeds: V, v and c.
 pub enum Pace {
@@ -48,6 +48,12 @@ pub struct Settings {
 }
 
 impl Range {
+    fn between(least: u32, most: u32) -> Range
+        ensures { λ r. ⌜ r ≡ least to most ⌝ }
+    {
+        Range { least, most }
+    }
+
     pub fn has(self, n: u32) -> bool
         ensures { λ r. ⌜ r ≡ within self n ⌝ }
     {
@@ -155,42 +161,24 @@ impl Settings {
         ensures { λ r. ⌜ r ≡ rangeOf of ⌝ }
     {
         match of {
-            Quantity::Home => Range {
-                least: Settings::HOME_LEAST,
-                most: Settings::HOME_MOST,
-            },
-            Quantity::Increments => Range {
-                least: Settings::INCREMENTS_LEAST,
-                most: Settings::INCREMENTS_MOST,
-            },
-            Quantity::Nanolitres => Range {
-                least: Settings::NANOLITRES_LEAST,
-                most: Settings::NANOLITRES_MOST,
-            },
-            Quantity::Slope => Range {
-                least: Settings::SLOPE_LEAST,
-                most: Settings::SLOPE_MOST,
-            },
-            Quantity::Backlash => Range {
-                least: Settings::BACKLASH_LEAST,
-                most: Settings::BACKLASH_MOST,
-            },
-            Quantity::Compensation => Range {
-                least: Settings::COMPENSATION_LEAST,
-                most: Settings::COMPENSATION_MOST,
-            },
-            Quantity::Choice => Range {
-                least: Settings::CHOICE_LEAST,
-                most: Settings::CHOICE_MOST,
-            },
-            Quantity::Delay => Range {
-                least: Settings::DELAY_LEAST,
-                most: Settings::DELAY_MOST,
-            },
-            Quantity::Passes => Range {
-                least: Settings::PASSES_LEAST,
-                most: Settings::PASSES_MOST,
-            },
+            Quantity::Home => Range::between(Settings::HOME_LEAST, Settings::HOME_MOST),
+            Quantity::Increments => Range::between(
+                Settings::INCREMENTS_LEAST,
+                Settings::INCREMENTS_MOST,
+            ),
+            Quantity::Nanolitres => Range::between(
+                Settings::NANOLITRES_LEAST,
+                Settings::NANOLITRES_MOST,
+            ),
+            Quantity::Slope => Range::between(Settings::SLOPE_LEAST, Settings::SLOPE_MOST),
+            Quantity::Backlash => Range::between(Settings::BACKLASH_LEAST, Settings::BACKLASH_MOST),
+            Quantity::Compensation => Range::between(
+                Settings::COMPENSATION_LEAST,
+                Settings::COMPENSATION_MOST,
+            ),
+            Quantity::Choice => Range::between(Settings::CHOICE_LEAST, Settings::CHOICE_MOST),
+            Quantity::Delay => Range::between(Settings::DELAY_LEAST, Settings::DELAY_MOST),
+            Quantity::Passes => Range::between(Settings::PASSES_LEAST, Settings::PASSES_MOST),
         }
     }
 
@@ -216,18 +204,9 @@ impl Settings {
         ensures { λ r. ⌜ r ≡ speedsOf of ⌝ }
     {
         match of {
-            Pace::Top => Range {
-                least: Settings::SPEED_LEAST,
-                most: Settings::SPEED_MOST,
-            },
-            Pace::Start => Range {
-                least: Settings::START_SPEED_LEAST,
-                most: Settings::START_SPEED_MOST,
-            },
-            Pace::Cutoff => Range {
-                least: Settings::SPEED_LEAST,
-                most: Settings::SPEED_MOST,
-            },
+            Pace::Top => Range::between(Settings::SPEED_LEAST, Settings::SPEED_MOST),
+            Pace::Start => Range::between(Settings::START_SPEED_LEAST, Settings::START_SPEED_MOST),
+            Pace::Cutoff => Range::between(Settings::SPEED_LEAST, Settings::SPEED_MOST),
         }
     }
 
@@ -236,18 +215,9 @@ impl Settings {
         ensures { λ r. ⌜ r ≡ flowsOf of ⌝ }
     {
         match of {
-            Pace::Top => Range {
-                least: Settings::FLOW_LEAST,
-                most: Settings::FLOW_MOST,
-            },
-            Pace::Start => Range {
-                least: Settings::START_FLOW_LEAST,
-                most: Settings::START_FLOW_MOST,
-            },
-            Pace::Cutoff => Range {
-                least: Settings::FLOW_LEAST,
-                most: Settings::FLOW_MOST,
-            },
+            Pace::Top => Range::between(Settings::FLOW_LEAST, Settings::FLOW_MOST),
+            Pace::Start => Range::between(Settings::START_FLOW_LEAST, Settings::START_FLOW_MOST),
+            Pace::Cutoff => Range::between(Settings::FLOW_LEAST, Settings::FLOW_MOST),
         }
     }
 
