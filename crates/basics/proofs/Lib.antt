@@ -3,3 +3,4 @@ pub mod Choice
 pub mod Lists
 pub mod Over
 pub mod Digits
+pub mod Laying

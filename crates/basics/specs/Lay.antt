@@ -17,7 +17,11 @@ over xs at buf = take at buf ++ xs ++ drop (at + length xs) buf
 unfoldable pub fits : List ℕ → ℕ → List ℕ → Bool
 fits xs at buf = leb (at + length xs) (length buf)
 
+-- the buffer with xs from a place on, or as it was where they don't fit
+unfoldable pub laidIn : List ℕ → ℕ → List ℕ → List ℕ
+laidIn xs at buf = if fits xs at buf then over xs at buf else buf
+
 -- laying xs into a buffer answers how many bytes they are, or that there is no room; then the buffer stays as it was
 pub record Laid (xs : List ℕ) (at : ℕ) (before : List ℕ) (r : Put) (after : List ℕ) : Type 0 where
   pub said : r ≡ (if fits xs at before then Bytes (length xs) else NoRoom)
-  pub left : after ≡ (if fits xs at before then over xs at before else before)
+  pub left : after ≡ laidIn xs at before

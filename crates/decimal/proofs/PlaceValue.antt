@@ -87,7 +87,7 @@ trim-every p (d ∷ e ∷ ds) h = go (eqb d zeroDigit) (trim-every p (e ∷ ds))
     go true r = r tail
     go false r = h
 
-last-are-digits : (k n : ℕ) → every digit (lastDigits k n) ≡ true
+pub last-are-digits : (k n : ℕ) → every digit (lastDigits k n) ≡ true
 unfolding lastDigits every
 last-are-digits zero n = refl
 last-are-digits (suc k) n =

@@ -7,13 +7,13 @@ use borrow.Author.Needs.{needs}
 use borrow.Author.Tests.{le-leb, lt-leb}
 use lib.ListN.{length}
 use Rattle.basics.specs.declared.Put.the-variants.{Bytes, NoRoom}
-use Rattle.basics.specs.Lay.{Laid, over, fits}
+use Rattle.basics.specs.Lay.{Laid, over, fits, laidIn}
 use Rattle.basics.proofs.lay.Statement.{statement}
 use Rattle.basics.proofs.lay.Tie as tie
 
 module _ (xs : List ℕ) (at : ℕ) (buf : List ℕ) where
   none : length buf < at + length xs → Laid xs at buf NoRoom buf
-  unfolding fits
+  unfolding fits laidIn
   none h = let e = lt-leb _ _ h in record { said = rw e; left = rw e }
 
   outside : length buf < at → Laid xs at buf NoRoom buf
@@ -23,7 +23,7 @@ module _ (xs : List ℕ) (at : ℕ) (buf : List ℕ) where
   tight h k = none (omega arith)
 
   laid : (after : List ℕ) → at ≤ length buf → length xs ≤ length buf - at → after ≡ over xs at buf → Laid xs at buf (Bytes (length xs)) after
-  unfolding fits
+  unfolding fits laidIn
   laid after h k s =
       let f : at + length xs ≤ length buf = omega arith in
       let e = le-leb _ _ f in
