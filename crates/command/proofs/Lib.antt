@@ -1,0 +1,5 @@
+pub mod Making
+pub mod Within
+pub mod Reach
+pub mod Table
+pub mod Allowed

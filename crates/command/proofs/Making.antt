@@ -1,0 +1,65 @@
+-- Laws of what numbers make, stated as the code meets them: what a function gave is known to be what its definition says, and to be the case at hand.
+use mathlib.Core.Path.{_≡_}
+use Prim.Native.Nat.{ℕ}
+use Rattle.basics.proofs.Rules.{tests}
+use Rattle.settings.specs.declared.Range.{Range}
+use Rattle.operand.specs.declared.Number.{Number}
+use Rattle.command.specs.declared.Command.{Command}
+use Rattle.command.specs.declared.Taken.{Taken}
+use Rattle.command.specs.declared.Taken.the-variants.{Good, Bad}
+use Rattle.command.specs.declared.Formed.{Formed}
+use Rattle.command.specs.declared.Formed.the-variants.{Made, WrongOperand}
+use Rattle.command.specs.Table.{takenOf, made, both, inUnit}
+
+-- a number of the table, by its range and its default
+pub accepted : (k : ℕ) (range R : Range) (usual U : ℕ) (n : Number) (r : Taken) → range ≡ R → usual ≡ U → r ≡ takenOf k range usual n → r ≡ takenOf k R U n
+accepted k range R usual U n r p q e = rw (p, q) at e
+
+-- one number; x is what was given for it
+module _ (f : ℕ → Command) (x t : Taken) (e : x ≡ t) where
+  pub made-good : (n : ℕ) (r : Formed) → x ≡ Good n → r ≡ Made (f n) → r ≡ made f t
+  unfolding made
+  made-good n r h q = rw (← e, h) q
+
+  pub made-bad : x ≡ Bad → WrongOperand ≡ made f t
+  unfolding made
+  made-bad h = rw (← e, h)
+
+  pub made-of : (r : Formed) → r ≡ made f x → r ≡ made f t
+  made-of r h = rw e at h
+
+-- two numbers
+module _ (f : ℕ → ℕ → Command) (x t : Taken) (e : x ≡ t) (y s : Taken) where
+  pub both-first : x ≡ Bad → WrongOperand ≡ both f t s
+  unfolding both
+  both-first h = rw (← e, h)
+
+  module _ (a : ℕ) (h : x ≡ Good a) (d : y ≡ s) where
+    pub both-second : y ≡ Bad → WrongOperand ≡ both f t s
+    unfolding both
+    both-second k = rw (← e, h, ← d, k)
+
+    pub both-good : (b : ℕ) (r : Formed) → y ≡ Good b → r ≡ Made (f a b) → r ≡ both f t s
+    unfolding both
+    both-good b r k q = rw (← e, h, ← d, k) q
+
+-- a unit and what is made in each
+module _ (x t : Taken) (e : x ≡ t) (increments micro : Formed) where
+  pub unit-bad : x ≡ Bad → WrongOperand ≡ inUnit t increments micro
+  unfolding inUnit
+  unit-bad h = rw (← e, h)
+
+  module _ (unit : ℕ) (h : x ≡ Good unit) (r : Formed) where
+    pub unit-increments : unit ≡ 0 → r ≡ increments → r ≡ inUnit t increments micro
+    unfolding inUnit
+    unit-increments z q = rw (← e, h, z) q
+
+    pub unit-micro : (unit ≡ 0 → ⊥) → r ≡ micro → r ≡ inUnit t increments micro
+    unfolding inUnit
+    unit-micro z q = rw (← e, h) (simp tests q)
+
+pub ruleset one-number = (made-good, made-bad)
+
+pub ruleset two-numbers = (both-first, both-second, both-good)
+
+pub ruleset units = (unit-bad, unit-increments, unit-micro, made-of)

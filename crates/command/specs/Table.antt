@@ -1,0 +1,132 @@
+-- 01, "Reading the data": the command table. What a letter stands for, and what its operands make of it.
+use Prim.Native.Nat.{ℕ, _-_, _/_, _^_}
+use mathlib.Core.Bool.{Bool, true, false, _&&_}
+use mathlib.Core.List.{List, [], _∷_}
+use lib.Dec.{leb, eqb}
+use Rattle.basics.specs.Choice.{if_then_else_}
+use Rattle.settings.specs.declared.Range.{Range}
+use Rattle.settings.specs.declared.Pace.{Pace}
+use Rattle.settings.specs.declared.Pace.the-variants.{Top, Start, Cutoff}
+use Rattle.settings.specs.declared.Quantity.{Quantity}
+use Rattle.settings.specs.declared.Quantity.the-variants as Q
+use Rattle.settings.specs.Limits.{within, rangeOf, usualOf, speedsOf, flowsOf, usualSpeed}
+use Rattle.settings.specs.Units.{tenthsOf}
+use Rattle.operand.specs.declared.Number.{Number}
+use Rattle.operand.specs.declared.Number.the-variants.{Absent, Is, Wrong}
+use Rattle.operand.specs.declared.Pair.{Pair}
+use Rattle.operand.specs.Number.{numberOf, pairOf}
+use Rattle.command.specs.declared.Way.{Way}
+use Rattle.command.specs.declared.Way.the-variants.{To, Up, Down}
+use Rattle.command.specs.declared.Letter.{Letter}
+use Rattle.command.specs.declared.Letter.the-variants as L
+use Rattle.command.specs.declared.Command.{Command}
+use Rattle.command.specs.declared.Command.the-variants as C
+use Rattle.command.specs.declared.Taken.{Taken}
+use Rattle.command.specs.declared.Taken.the-variants.{Good, Bad}
+use Rattle.command.specs.declared.Formed.{Formed}
+use Rattle.command.specs.declared.Formed.the-variants.{Made, NoLetter, WrongOperand}
+
+abbrev pub moveBy : Way → Bool → ℕ → Command
+moveBy way micro n = C.Move way (record { amount = n; micro = micro })
+
+abbrev pub compensateBy : ℕ → ℕ → Command
+compensateBy b way = C.Compensate b (eqb way 1)
+
+-- "Any character that belongs to no operand text counts as a letter here"; those outside the table are `Other`
+unfoldable pub letterOf : ℕ → Letter
+letterOf b =
+    if eqb b 87 then L.Home  -- W
+    else if eqb b 65 then L.Volume To  -- A
+    else if eqb b 80 then L.Volume Up  -- P
+    else if eqb b 68 then L.Volume Down  -- D
+    else if eqb b 86 then L.Speed Top  -- V
+    else if eqb b 118 then L.Speed Start  -- v
+    else if eqb b 99 then L.Speed Cutoff  -- c
+    else if eqb b 76 then L.Slopes  -- L
+    else if eqb b 75 then L.Backlash  -- K
+    else if eqb b 98 then L.Compensation  -- b
+    else if eqb b 77 then L.Delay  -- M
+    else if eqb b 103 then L.Open  -- g
+    else if eqb b 71 then L.Close  -- G
+    else L.Other
+
+-- a written number, in thousandths: at most k decimals, and in units of 1 / 10 ^ k within its range
+unfoldable pub allowed : ℕ → Range → ℕ → ℕ → Taken
+allowed k range thousandths decimals =
+    let n = thousandths / 10 ^ (3 - k) in
+    if leb decimals k && within range n then Good n else Bad
+
+-- "An absent number takes its default without a range check. Anything else is 3"
+unfoldable pub takenOf : ℕ → Range → ℕ → Number → Taken
+takenOf k range usual Absent = Good usual
+takenOf k range usual (Is n decimals) = allowed k range n decimals
+takenOf k range usual Wrong = Bad
+
+-- "all others no point at all"
+unfoldable pub wholeOf : Quantity → Number → Taken
+wholeOf q n = takenOf 0 (rangeOf q) (usualOf q) n
+
+-- "µL values may have three decimals, V, v and c in increments one"
+unfoldable pub nanolitresOf : Number → Taken
+nanolitresOf n = takenOf 3 (rangeOf Q.Nanolitres) (usualOf Q.Nanolitres) n
+
+unfoldable pub speedOf : Pace → Number → Taken
+speedOf pace n = takenOf 1 (speedsOf pace) (usualSpeed pace) n
+
+unfoldable pub inTenths : Taken → Taken
+inTenths (Good n) = Good (tenthsOf n)
+inTenths Bad = Bad
+
+-- "An absent speed is the default in increments, whichever unit is given."
+unfoldable pub flowOf : Pace → Number → Taken
+flowOf pace Absent = Good (usualSpeed pace)
+flowOf pace (Is n decimals) = inTenths (allowed 3 (flowsOf pace) n decimals)
+flowOf pace Wrong = Bad
+
+-- a command of one number, and of two
+unfoldable pub made : (ℕ → Command) → Taken → Formed
+made f (Good n) = Made (f n)
+made f Bad = WrongOperand
+
+unfoldable pub both : (ℕ → ℕ → Command) → Taken → Taken → Formed
+both f (Good a) (Good b) = Made (f a b)
+both f (Good a) Bad = WrongOperand
+both f Bad b = WrongOperand
+
+-- the second number of A P D V v c: "0, or 1 for µL"
+unfoldable pub inUnit : Taken → Formed → Formed → Formed
+inUnit (Good unit) increments micro = if eqb unit 0 then increments else micro
+inUnit Bad increments micro = WrongOperand
+
+unfoldable pub volumeOf : Way → Pair → Formed
+volumeOf way p =
+    inUnit (wholeOf Q.Choice (p .second))
+    (made (moveBy way false) (wholeOf Q.Increments (p .first)))
+    (made (moveBy way true) (nanolitresOf (p .first)))
+
+unfoldable pub pacedOf : Pace → Pair → Formed
+pacedOf pace p =
+    inUnit (wholeOf Q.Choice (p .second))
+    (made (C.Speed pace) (speedOf pace (p .first)))
+    (made (C.Speed pace) (flowOf pace (p .first)))
+
+unfoldable pub slopesOf : Pair → Formed
+slopesOf p = both C.Slopes (wholeOf Q.Slope (p .first)) (wholeOf Q.Slope (p .second))
+
+-- "0 up, 1 down"
+unfoldable pub compensationOf : Pair → Formed
+compensationOf p = both compensateBy (wholeOf Q.Compensation (p .first)) (wholeOf Q.Choice (p .second))
+
+-- what a letter and its operand text make: 01's table
+unfoldable pub commandOf : Letter → List ℕ → Formed
+commandOf L.Home t = made C.Initialise (wholeOf Q.Home (numberOf t))
+commandOf (L.Volume way) t = volumeOf way (pairOf t)
+commandOf (L.Speed pace) t = pacedOf pace (pairOf t)
+commandOf L.Slopes t = slopesOf (pairOf t)
+commandOf L.Backlash t = made C.Backlash (wholeOf Q.Backlash (numberOf t))
+commandOf L.Compensation t = compensationOf (pairOf t)
+commandOf L.Delay t = made C.Delay (wholeOf Q.Delay (numberOf t))
+commandOf L.Open [] = Made C.Open
+commandOf L.Open (b ∷ t) = WrongOperand  -- "An operand on g is 3."
+commandOf L.Close t = made C.Close (wholeOf Q.Passes (numberOf t))
+commandOf L.Other t = NoLetter

@@ -1,0 +1,381 @@
+// Commands: what stands at a place of a text, by 01's command table.
+use operand::Number;
+use operand::Pair;
+use settings::Pace;
+use settings::Quantity;
+use settings::Range;
+use settings::Settings;
+use settings::Volume;
+use settings::units;
+ghost use mathlib.Core.Path.{_≡_};
+ghost use Prim.Native.Nat.{_+_, _-_, _^_, _≤_};
+ghost use Rattle.command.specs.Table.{letterOf, allowed, takenOf, wholeOf, nanolitresOf, speedOf, inTenths, flowOf, made, moveBy, volumeOf, pacedOf, slopesOf, compensationOf, commandOf};
+ghost use Rattle.command.specs.Command.{refusalNumber, placed, commandAt};
+
+// A, P and D: to a place, up from here, down from here.
+pub enum Way {
+    To,
+    Up,
+    Down,
+}
+
+pub enum Command {
+    // W: increments a second.
+    Initialise(u16),
+    Move(Way, Volume),
+    // V, v and c: tenths of an increment a second.
+    Speed(Pace, u32),
+    // L.
+    Slopes(u32, u32),
+    // K.
+    Backlash(u32),
+    // b, and whether downwards.
+    Compensate(u16, bool),
+    // M: milliseconds.
+    Delay(u32),
+    // g.
+    Open,
+    // G: passes, 0 for endless.
+    Close(u32),
+}
+
+pub enum Refusal {
+    // A letter that is not allowed here, at its place.
+    Letter(usize),
+    // A wrong operand text, where it begins.
+    Operand(usize),
+}
+
+impl Refusal {
+    // 01's number.
+    pub fn number(self) -> u8
+        ensures { λ r. ⌜ r ≡ refusalNumber self ⌝ }
+    {
+        match self {
+            Refusal::Letter(_) => 2,
+            Refusal::Operand(_) => 3,
+        }
+    }
+}
+
+// A command and the place after it, a refusal, or nothing where the text ends.
+pub enum Found {
+    Command(Command, usize),
+    Refused(Refusal),
+    End,
+}
+
+// What a letter of the table stands for.
+pub enum Letter {
+    Home,
+    Volume(Way),
+    Speed(Pace),
+    Slopes,
+    Backlash,
+    Compensation,
+    Delay,
+    Open,
+    Close,
+    Other,
+}
+
+// A number of a command.
+pub enum Taken {
+    Good(u32),
+    Bad,
+}
+
+// What a letter and its operand text make.
+pub enum Formed {
+    Made(Command),
+    NoLetter,
+    WrongOperand,
+}
+
+fn letter_of(b: u8) -> Letter
+    ensures { λ r. ⌜ r ≡ letterOf b ⌝ }
+{
+    match b {
+        b'W' => Letter::Home,
+        b'A' => Letter::Volume(Way::To),
+        b'P' => Letter::Volume(Way::Up),
+        b'D' => Letter::Volume(Way::Down),
+        b'V' => Letter::Speed(Pace::Top),
+        b'v' => Letter::Speed(Pace::Start),
+        b'c' => Letter::Speed(Pace::Cutoff),
+        b'L' => Letter::Slopes,
+        b'K' => Letter::Backlash,
+        b'b' => Letter::Compensation,
+        b'M' => Letter::Delay,
+        b'g' => Letter::Open,
+        b'G' => Letter::Close,
+        _ => Letter::Other,
+    }
+}
+
+// A written number of at most k decimals; `unit` is what 1 / 10 ^ k is in thousandths.
+fn allow(k: usize, unit: u32, range: Range, thousandths: u32, decimals: usize) -> Taken
+    requires { ⌜ (unit ≡ 10 ^ (3 - k)) × (1 ≤ unit) ⌝ }
+    ensures { λ r. ⌜ r ≡ allowed k range thousandths decimals ⌝ }
+{
+    if k < decimals {
+        return Taken::Bad;
+    }
+    let n = thousandths / unit;
+    if range.has(n) {
+        return Taken::Good(n);
+    }
+    Taken::Bad
+}
+
+// A number of the table: the default where it is absent, else as written.
+fn accept(k: usize, unit: u32, range: Range, usual: u32, n: Number) -> Taken
+    requires { ⌜ (unit ≡ 10 ^ (3 - k)) × (1 ≤ unit) ⌝ }
+    ensures { λ r. ⌜ r ≡ takenOf k range usual n ⌝ }
+{
+    match n {
+        Number::Absent => Taken::Good(usual),
+        Number::Is {
+            thousandths,
+            decimals,
+        } => allow(k, unit, range, thousandths, decimals),
+        Number::Wrong => Taken::Bad,
+    }
+}
+
+// A number without a point.
+fn whole(of: Quantity, n: Number) -> Taken
+    ensures { λ r. ⌜ r ≡ wholeOf of n ⌝ }
+{
+    let range = Settings::range(of);
+    let usual = Settings::usual(of);
+    accept(0, 1000, range, usual, n)
+}
+
+// A volume in µL, as nL.
+fn nanolitres(n: Number) -> Taken
+    ensures { λ r. ⌜ r ≡ nanolitresOf n ⌝ }
+{
+    let range = Settings::range(Quantity::Nanolitres);
+    let usual = Settings::usual(Quantity::Nanolitres);
+    accept(3, 1, range, usual, n)
+}
+
+// A speed in increments a second, as tenths.
+fn speed(of: Pace, n: Number) -> Taken
+    ensures { λ r. ⌜ r ≡ speedOf of n ⌝ }
+{
+    let range = Settings::speeds(of);
+    let usual = Settings::usual_speed(of);
+    accept(1, 100, range, usual, n)
+}
+
+// nL a second as tenths of an increment a second.
+fn in_tenths(taken: Taken) -> Taken
+    ensures { λ r. ⌜ r ≡ inTenths taken ⌝ }
+{
+    match taken {
+        Taken::Good(nl) => Taken::Good(units::tenths(nl)),
+        Taken::Bad => Taken::Bad,
+    }
+}
+
+// A speed in µL a second, as tenths of an increment a second.
+fn flow(of: Pace, n: Number) -> Taken
+    ensures { λ r. ⌜ r ≡ flowOf of n ⌝ }
+{
+    match n {
+        Number::Absent => Taken::Good(Settings::usual_speed(of)),
+        Number::Is {
+            thousandths,
+            decimals,
+        } => {
+            let range = Settings::flows(of);
+            in_tenths(allow(3, 1, range, thousandths, decimals))
+        }
+        Number::Wrong => Taken::Bad,
+    }
+}
+
+fn move_by(way: Way, micro: bool, taken: Taken) -> Formed
+    ensures { λ r. ⌜ r ≡ made (moveBy way micro) taken ⌝ }
+{
+    match taken {
+        Taken::Good(amount) => Formed::Made(Command::Move(way, Volume { amount, micro })),
+        Taken::Bad => Formed::WrongOperand,
+    }
+}
+
+// A, P and D.
+fn volume(way: Way, pair: Pair) -> Formed
+    ensures { λ r. ⌜ r ≡ volumeOf way pair ⌝ }
+{
+    let first = pair.first;
+    let second = pair.second;
+    let unit = whole(Quantity::Choice, second);
+    match unit {
+        Taken::Good(unit) => {
+            if unit == 0 {
+                return move_by(way, false, whole(Quantity::Increments, first));
+            }
+            move_by(way, true, nanolitres(first))
+        }
+        Taken::Bad => Formed::WrongOperand,
+    }
+}
+
+fn pace_by(pace: Pace, taken: Taken) -> Formed
+    ensures { λ r. ⌜ r ≡ made (Command.Speed pace) taken ⌝ }
+{
+    match taken {
+        Taken::Good(tenths) => Formed::Made(Command::Speed(pace, tenths)),
+        Taken::Bad => Formed::WrongOperand,
+    }
+}
+
+// V, v and c.
+fn paced(pace: Pace, pair: Pair) -> Formed
+    ensures { λ r. ⌜ r ≡ pacedOf pace pair ⌝ }
+{
+    let first = pair.first;
+    let second = pair.second;
+    let unit = whole(Quantity::Choice, second);
+    match unit {
+        Taken::Good(unit) => {
+            if unit == 0 {
+                return pace_by(pace, speed(pace, first));
+            }
+            pace_by(pace, flow(pace, first))
+        }
+        Taken::Bad => Formed::WrongOperand,
+    }
+}
+
+// L.
+fn slopes(pair: Pair) -> Formed
+    ensures { λ r. ⌜ r ≡ slopesOf pair ⌝ }
+{
+    let first = pair.first;
+    let second = pair.second;
+    let Taken::Good(up) = whole(Quantity::Slope, first) else {
+        return Formed::WrongOperand;
+    };
+    let Taken::Good(down) = whole(Quantity::Slope, second) else {
+        return Formed::WrongOperand;
+    };
+    Formed::Made(Command::Slopes(up, down))
+}
+
+// b.
+fn compensation(pair: Pair) -> Formed
+    ensures { λ r. ⌜ r ≡ compensationOf pair ⌝ }
+{
+    let first = pair.first;
+    let second = pair.second;
+    let Taken::Good(by) = whole(Quantity::Compensation, first) else {
+        return Formed::WrongOperand;
+    };
+    let Taken::Good(way) = whole(Quantity::Choice, second) else {
+        return Formed::WrongOperand;
+    };
+    let b = by as u16;
+    Formed::Made(Command::Compensate(b, way == 1))
+}
+
+// W.
+fn home(n: Number) -> Formed
+    ensures { λ r. ⌜ r ≡ made Command.Initialise (wholeOf Quantity.Home n) ⌝ }
+{
+    match whole(Quantity::Home, n) {
+        Taken::Good(n) => {
+            let speed = n as u16;
+            Formed::Made(Command::Initialise(speed))
+        }
+        Taken::Bad => Formed::WrongOperand,
+    }
+}
+
+// K.
+fn backlash(n: Number) -> Formed
+    ensures { λ r. ⌜ r ≡ made Command.Backlash (wholeOf Quantity.Backlash n) ⌝ }
+{
+    match whole(Quantity::Backlash, n) {
+        Taken::Good(increments) => Formed::Made(Command::Backlash(increments)),
+        Taken::Bad => Formed::WrongOperand,
+    }
+}
+
+// M.
+fn delay(n: Number) -> Formed
+    ensures { λ r. ⌜ r ≡ made Command.Delay (wholeOf Quantity.Delay n) ⌝ }
+{
+    match whole(Quantity::Delay, n) {
+        Taken::Good(ms) => Formed::Made(Command::Delay(ms)),
+        Taken::Bad => Formed::WrongOperand,
+    }
+}
+
+// G.
+fn close(n: Number) -> Formed
+    ensures { λ r. ⌜ r ≡ made Command.Close (wholeOf Quantity.Passes n) ⌝ }
+{
+    match whole(Quantity::Passes, n) {
+        Taken::Good(passes) => Formed::Made(Command::Close(passes)),
+        Taken::Bad => Formed::WrongOperand,
+    }
+}
+
+// g takes no operand.
+fn opened(t: &[u8]) -> Formed
+    ensures { λ r. ⌜ r ≡ commandOf Letter.Open (now (t .entry)) ⌝ }
+{
+    if t.len() == 0 {
+        return Formed::Made(Command::Open);
+    }
+    Formed::WrongOperand
+}
+
+// What a letter and its operand text make.
+fn form(letter: Letter, t: &[u8]) -> Formed
+    ensures { λ r. ⌜ r ≡ commandOf letter (now (t .entry)) ⌝ }
+{
+    match letter {
+        Letter::Home => home(operand::one(t)),
+        Letter::Volume(way) => volume(way, operand::two(t)),
+        Letter::Speed(pace) => paced(pace, operand::two(t)),
+        Letter::Slopes => slopes(operand::two(t)),
+        Letter::Backlash => backlash(operand::one(t)),
+        Letter::Compensation => compensation(operand::two(t)),
+        Letter::Delay => delay(operand::one(t)),
+        Letter::Open => opened(t),
+        Letter::Close => close(operand::one(t)),
+        Letter::Other => Formed::NoLetter,
+    }
+}
+
+// What stands at `at`, whose operand text ends at `next`.
+fn place(at: usize, from: usize, next: usize, formed: Formed) -> Found
+    requires { ⌜ (from ≡ at + 1) × (from ≤ next) ⌝ }
+    ensures { λ r. ⌜ r ≡ placed at (next - from) formed ⌝ }
+{
+    match formed {
+        Formed::Made(c) => Found::Command(c, next),
+        Formed::NoLetter => Found::Refused(Refusal::Letter(at)),
+        Formed::WrongOperand => Found::Refused(Refusal::Operand(from)),
+    }
+}
+
+// The command at a place of a text.
+pub fn command_at(s: &[u8], at: usize) -> Found
+    ensures { λ r. ⌜ r ≡ commandAt (now (s .entry)) at ⌝ }
+{
+    if s.len() <= at {
+        return Found::End;
+    }
+    let letter = letter_of(s[at]);
+    let from = at + 1;
+    let size = operand::extent(&s[from..]);
+    let next = from + size;
+    let made = form(letter, &s[from..next]);
+    place(at, from, next, made)
+}
