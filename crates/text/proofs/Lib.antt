@@ -1,0 +1,10 @@
+pub mod Places
+pub mod Squeezing
+pub mod Levels
+pub mod Tiles
+pub mod Spaces
+pub mod Joins
+pub mod Trees
+pub mod Examples
+pub mod Partners
+pub mod Strings
