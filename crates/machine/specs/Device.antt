@@ -1,0 +1,41 @@
+-- The text's array and the core together: what the host calls.
+use Prim.Native.Nat.{ℕ}
+use mathlib.Core.List.{List}
+use lib.Dec.{ltb}
+use lib.ListN.{replicate}
+use Rattle.basics.specs.Choice.{if_then_else_}
+use Rattle.motion.specs.Events.{Turn}
+use Rattle.motion.specs.Motion.{freshBody}
+use Rattle.machine.specs.declared.course.State.the-variants.{Empty}
+use Rattle.machine.specs.declared.step.Core.{Core}
+use Rattle.machine.specs.declared.Device.{Device}
+use Rattle.machine.specs.declared.Used.{Used}
+use Rattle.machine.specs.declared.Used.the-variants.{Ticks, S3}
+use Rattle.machine.specs.declared.Ran.{Ran}
+use Rattle.machine.specs.Course.{courseOf, noLoops}
+use Rattle.machine.specs.Step.{core, stepOf}
+use Rattle.machine.specs.Run.{ticksOf, usedOf}
+use Rattle.machine.specs.Buffer.{stopOf}
+
+abbrev pub device : List ℕ → Core → Device
+device text c = record { text = text; core = c }
+
+-- "Fresh: plunger and exact position 0, as after reset."
+unfoldable pub freshOf : Turn Device
+freshOf = record { next = device (replicate 256 0) (core (freshBody .next) (courseOf 0 0 noLoops Empty 0)); events = freshBody .events }
+
+unfoldable pub tickOf : Device → Turn Device
+tickOf d = let t = stepOf (d .text) (d .core) in record { next = device (d .text) (t .next); events = t .events }
+
+unfoldable pub haltedOf : Device → Turn Device
+haltedOf d = let t = stopOf (d .core) in record { next = device (d .text) (t .next); events = t .events }
+
+unfoldable pub advanceOf : ℕ → Device → Device
+advanceOf n d = device (d .text) (ticksOf n (d .text) (d .core))
+
+-- "S3: more than 60000 ticks asked of a run: nothing changed"
+unfoldable pub ranOf : ℕ → Device → Ran
+ranOf n d =
+    if ltb 60000 n
+    then record { device = d; used = S3 }
+    else (let k = usedOf n (d .text) (d .core) in record { device = advanceOf k d; used = Ticks k })

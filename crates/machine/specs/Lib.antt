@@ -1,0 +1,10 @@
+pub mod Course
+pub mod Step
+pub mod Run
+pub mod Buffer
+pub mod Valid
+pub mod Device
+pub mod History
+pub mod Movement
+pub mod Refusals
+pub mod OnCourse

@@ -1,0 +1,46 @@
+-- What is right for the case at hand is right for what is that case.
+use mathlib.Core.Path.{_≡_, ap, _∙_}
+use mathlib.Core.Bool.{Bool}
+use Prim.Native.Nat.{ℕ}
+use Rattle.basics.proofs.Rules.{tests}
+use Rattle.settings.specs.declared.Settings.{Settings}
+use Rattle.settings.specs.declared.Pace.{Pace}
+use Rattle.command.specs.declared.Way.{Way}
+use Rattle.command.specs.declared.Command.{Command}
+use Rattle.motion.specs.declared.Body.{Body}
+use Rattle.motion.specs.declared.Travel.{Travel}
+use Rattle.motion.specs.declared.Activity.{Activity}
+use Rattle.motion.specs.declared.Activity.the-variants.{Between}
+use Rattle.motion.specs.declared.Moment.{Moment}
+use Rattle.motion.specs.declared.Effect.{Effect}
+use Rattle.motion.specs.declared.Target.{Target}
+use Rattle.motion.specs.Motion.{targetOf, pacedOf, setTo, effectOf, plungerOf, bodyAt, bodyKnown, moment, carried, onwardOf, cutOf}
+
+pub target-case : (k j : Way) (by exact : ℕ) (r : Target) → k ≡ j → r ≡ targetOf j by exact → r ≡ targetOf k by exact
+target-case k j by exact r p e = rw p e
+
+pub pace-case : (k j : Pace) (n : ℕ) (s r : Settings) → k ≡ j → r ≡ pacedOf j n s → r ≡ pacedOf k n s
+pace-case k j n s r p e = rw p e
+
+pub effect-case : (k j : Command) (b : Body) (r : Effect) → k ≡ j → r ≡ effectOf j b .next → r ≡ effectOf k b .next
+effect-case k j b r p e = rw p e
+
+-- a setting changed
+pub setting-case : (k j : Command) (s t : Settings) (b : Body) (r : Effect) → k ≡ j → s ≡ t → r ≡ setTo s b → setTo t b ≡ effectOf j b .next → r ≡ effectOf k b .next
+setting-case k j s t b r p q e d = rw p (e ∙ ap (λ (x : Settings). setTo x b) q ∙ d)
+
+pub onward-case : (k j : Activity) (b : Body) (r : Moment) → k ≡ j → r ≡ onwardOf j b → r ≡ onwardOf k b
+onward-case k j b r p e = rw p e
+
+pub cut-case : (k j : Activity) (b r : Body) → k ≡ j → r ≡ cutOf j b .next → r ≡ cutOf k b .next
+cut-case k j b r p e = rw p e
+
+-- a movement that has arrived, and one that has not
+module _ (kind : Travel → Activity) (known : Bool) (t : Travel) (b : Body) (p : ℕ) (e : p ≡ plungerOf t) (r : Moment) where
+  pub there : p ≡ t .goal → r ≡ moment (bodyKnown known (bodyAt p b)) Between → r ≡ carried kind known t b
+  unfolding carried
+  there h q = simp (← e, q, tests)
+
+  pub away : (p ≡ t .goal → ⊥) → r ≡ moment (bodyAt p b) (kind t) → r ≡ carried kind known t b
+  unfolding carried
+  away h q = simp (← e, q, tests)

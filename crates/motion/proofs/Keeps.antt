@@ -1,0 +1,171 @@
+-- The bounds are kept by every command that was read, by every tick, by a cut and by a reset.
+use mathlib.Core.Path.{_≡_, refl}
+use mathlib.Core.Bool.{Bool, true, false}
+use Prim.Native.Nat.{ℕ, _+_, _-_, _*_, _/_, _≤_, _<_}
+use native.Mathlib.Nat.{mul-le-mul-left}
+use native.Mathlib.Omega.{arith}
+use borrow.Author.Tests.{leb-true, leb-false, eqb-false}
+use lib.Dec.{leb, eqb}
+use Rattle.basics.specs.Choice.{if_then_else_}
+use Rattle.basics.proofs.Choice.{by}
+use Rattle.settings.specs.declared.Settings.{Settings}
+use Rattle.settings.specs.declared.Pace.{Pace}
+use Rattle.settings.specs.declared.Pace.the-variants.{Top, Start, Cutoff}
+use Rattle.settings.specs.declared.Volume.{Volume}
+use Rattle.settings.specs.Limits.{speedsOf, usualSettings, Kept}
+use Rattle.settings.specs.Limits as Limits
+use Rattle.settings.specs.Units.{ticksOf, rateOf, millionthsOf, goalOf, goneOf}
+use Rattle.settings.proofs.Limits.{usual-settings-are-kept, every-b-makes-a-rate-allowed}
+use Rattle.settings.proofs.Rounding.{goal-is-within-travel}
+use Rattle.settings.proofs.Motion.{distance-gone-is-at-most-the-distance}
+use Rattle.command.specs.declared.Way.{Way}
+use Rattle.command.specs.declared.Command.{Command}
+use Rattle.command.specs.declared.Command.the-variants as C
+use Rattle.command.specs.Allowed.{Allowed}
+use Rattle.motion.specs.declared.Body.{Body}
+use Rattle.motion.specs.declared.Travel.{Travel}
+use Rattle.motion.specs.declared.Moment.{Moment}
+use Rattle.motion.specs.declared.Activity.{Activity}
+use Rattle.motion.specs.declared.Activity.the-variants.{Initialising, Moving, Delaying, Between}
+use Rattle.motion.specs.declared.Target.{Target}
+use Rattle.motion.specs.declared.Target.the-variants.{At, Outside}
+use Rattle.motion.specs.declared.Effect.{Effect}
+use Rattle.motion.specs.Events.{Turn}
+use Rattle.motion.specs.Motion.{travel, laterOf, plungerOf, moment, homeOf, targetOf, setOut, aimed, moveOf, pacedOf, slopedOf, backlashOf, ratedOf, delayOf, effectOf, carried, onwardOf, cutOf, resetOf, freshBody}
+use Rattle.motion.specs.Bounds.{BodyOk, TravelOk, ActivityOk, MomentOk, EffectOk}
+use Rattle.motion.proofs.Within.{target-within}
+
+-- a movement's plunger lies between its two ends
+pub plunger-between : (t : Travel) → t .from ≤ 44000 → t .goal ≤ 44000 → plungerOf t ≤ 44000
+unfolding plungerOf
+plunger-between t f g =
+    by (λ (p : ℕ). p ≤ 44000) (leb (t .from) (t .goal))
+    (λ h. omega (arith, leb-true (t .from) (t .goal) h, distance-gone-is-at-most-the-distance (t .ticks) (t .speed) (t .goal - t .from)))
+    (λ h. omega arith)
+
+-- a movement that has not arrived has been going for less than 44000 ticks
+under-way : (k s d : ℕ) → 1000 ≤ s → d ≤ 44000 → (goneOf k s d ≡ d → ⊥) → k ≤ 44000
+unfolding goneOf
+under-way k s d slow short h = omega (arith, mul-le-mul-left k slow)
+
+pub not-arrived : (t : Travel) → 1000 ≤ t .speed → t .from ≤ 44000 → t .goal ≤ 44000 → (plungerOf t ≡ t .goal → ⊥) → t .ticks ≤ 44000
+unfolding plungerOf
+not-arrived t slow f g = go (leb (t .from) (t .goal)) refl
+  where
+    go : (x : Bool) → leb (t .from) (t .goal) ≡ x
+        → ((if x then t .from + goneOf (t .ticks) (t .speed) (t .goal - t .from) else t .from - goneOf (t .ticks) (t .speed) (t .from - t .goal)) ≡ t .goal → ⊥)
+        → t .ticks ≤ 44000
+    go true e h = under-way (t .ticks) (t .speed) (t .goal - t .from) slow (omega arith) (λ a. h (omega (arith, leb-true (t .from) (t .goal) e)))
+    go false e h = under-way (t .ticks) (t .speed) (t .from - t .goal) slow (omega arith) (λ a. h (omega (arith, leb-false (t .from) (t .goal) e)))
+
+module _ (b : Body) (ok : BodyOk b) where
+  still : MomentOk (moment b Between)
+  still = record { body = ok; activity = tt }
+
+  set-with : (s : Settings) → Kept s → MomentOk (moment (record { plunger = b .plunger; exact = b .exact; initialised = b .initialised; settings = s }) Between)
+  set-with s k = record { body = record { plunger = ok .plunger; exact = ok .exact; settings = k }; activity = tt }
+
+  home-keeps : (n : ℕ) → 100 ≤ n → EffectOk (homeOf n b .next)
+  unfolding homeOf
+  home-keeps n h =
+      by EffectOk (eqb (b .plunger) 0)
+      (λ e. record { body = record { plunger = ok .plunger; exact = omega arith; settings = ok .settings }; activity = tt })
+      (λ e. record {
+        body = record { plunger = ok .plunger; exact = omega arith; settings = ok .settings };
+        activity = record { from = ok .plunger; goal = omega arith; slow = omega arith; ticks = omega arith };
+      })
+
+  set-out-keeps : (exact : ℕ) → exact ≤ 44000000000 → EffectOk (setOut exact b)
+  unfolding setOut
+  set-out-keeps exact h =
+      let fine : BodyOk (record { plunger = b .plunger; exact = exact; initialised = b .initialised; settings = b .settings })
+      = record { plunger = ok .plunger; exact = h; settings = ok .settings } in
+      by EffectOk (eqb (b .plunger) (goalOf exact))
+      (λ e. record { body = fine; activity = tt })
+      (λ e. record {
+        body = fine;
+        activity = record { from = ok .plunger; goal = goal-is-within-travel exact h; slow = ok .settings .top .least; ticks = omega arith };
+      })
+
+  aimed-keeps : (t : Target) (way : Way) (v : Volume) → ((exact : ℕ) → t ≡ At exact → exact ≤ 44000000000) → EffectOk (aimed t way v b .next)
+  unfolding aimed
+  aimed-keeps (At exact) way v h = set-out-keeps exact (h exact refl)
+  aimed-keeps Outside way v h = tt
+
+  move-keeps : (way : Way) (v : Volume) → EffectOk (moveOf way v b .next)
+  unfolding moveOf
+  move-keeps way v =
+      let target = targetOf way (millionthsOf v (b .settings .rate)) (b .exact) in
+      by (λ (t : Turn Effect). EffectOk (t .next)) (b .initialised)
+      (λ e. aimed-keeps target way v (λ exact. target-within way (millionthsOf v (b .settings .rate)) (b .exact) exact))
+      (λ e. tt)
+
+  delay-keeps : (ms : ℕ) → EffectOk (delayOf ms b)
+  unfolding delayOf
+  delay-keeps ms = by EffectOk (eqb (ticksOf ms) 0) (λ e. still) (λ e. record { body = ok; activity = tt })
+
+paced-kept : (pace : Pace) (n : ℕ) (s : Settings) → Limits.Between (speedsOf pace) n → Kept s → Kept (pacedOf pace n s)
+paced-kept Top n s h k = record { top = h; start = k .start; cutoff = k .cutoff; acceleration = k .acceleration; deceleration = k .deceleration; backlash = k .backlash; rate = k .rate }
+paced-kept Start n s h k = record { top = k .top; start = h; cutoff = k .cutoff; acceleration = k .acceleration; deceleration = k .deceleration; backlash = k .backlash; rate = k .rate }
+paced-kept Cutoff n s h k = record { top = k .top; start = k .start; cutoff = h; acceleration = k .acceleration; deceleration = k .deceleration; backlash = k .backlash; rate = k .rate }
+
+-- a command within 01's limits
+pub effect-keeps : (c : Command) (b : Body) → Allowed c → BodyOk b → EffectOk (effectOf c b .next)
+unfolding effectOf Allowed
+effect-keeps (C.Initialise n) b h ok = home-keeps b ok n (h .least)
+effect-keeps (C.Move way v) b h ok = move-keeps b ok way v
+effect-keeps (C.Speed pace n) b h ok = set-with b ok (pacedOf pace n (b .settings)) (paced-kept pace n (b .settings) h (ok .settings))
+effect-keeps (C.Slopes up down) b h ok =
+    let k = ok .settings in
+    set-with b ok (slopedOf up down (b .settings))
+    (record { top = k .top; start = k .start; cutoff = k .cutoff; acceleration = h .0; deceleration = h .1; backlash = k .backlash; rate = k .rate })
+effect-keeps (C.Backlash n) b h ok =
+    let k = ok .settings in
+    set-with b ok (backlashOf n (b .settings))
+    (record { top = k .top; start = k .start; cutoff = k .cutoff; acceleration = k .acceleration; deceleration = k .deceleration; backlash = h; rate = k .rate })
+effect-keeps (C.Compensate n down) b h ok =
+    let k = ok .settings in
+    set-with b ok (ratedOf (rateOf n down) (b .settings))
+    (record { top = k .top; start = k .start; cutoff = k .cutoff; acceleration = k .acceleration; deceleration = k .deceleration; backlash = k .backlash; rate = every-b-makes-a-rate-allowed n down h })
+effect-keeps (C.Delay ms) b h ok = delay-keeps b ok ms
+effect-keeps C.Open b h ok = tt
+effect-keeps (C.Close n) b h ok = tt
+
+-- a tick of what is in progress
+carried-keeps : (kind : Travel → Activity) (known : Bool) (t : Travel) (b : Body) → ((u : Travel) → TravelOk u → ActivityOk (kind u)) → BodyOk b → TravelOk t → MomentOk (carried kind known (laterOf t) b)
+unfolding carried
+carried-keeps kind known t b of ok go =
+    let u = laterOf t in
+    let low = plunger-between u (go .from) (go .goal) in
+    by MomentOk (eqb (plungerOf u) (t .goal))
+    (λ e. record { body = record { plunger = low; exact = ok .exact; settings = ok .settings }; activity = tt })
+    (λ e. record {
+      body = record { plunger = low; exact = ok .exact; settings = ok .settings };
+      activity = of u (record { from = go .from; goal = go .goal; slow = go .slow; ticks = not-arrived u (go .slow) (go .from) (go .goal) (eqb-false (plungerOf u) (t .goal) e) });
+    })
+
+pub onward-keeps : (a : Activity) (b : Body) → ActivityOk a → BodyOk b → MomentOk (onwardOf a b)
+unfolding onwardOf
+onward-keeps (Initialising t) b go ok = carried-keeps Initialising true t b (λ u h. h) ok go
+onward-keeps (Moving t) b go ok = carried-keeps Moving (b .initialised) t b (λ u h. h) ok go
+onward-keeps (Delaying k) b go ok = by MomentOk (leb k 1) (λ e. still b ok) (λ e. record { body = ok; activity = tt })
+onward-keeps Between b go ok = still b ok
+
+-- a cut, a reset and a fresh body
+at-plunger : (b : Body) → BodyOk b → BodyOk (record { plunger = b .plunger; exact = b .plunger * 1000000; initialised = b .initialised; settings = b .settings })
+at-plunger b ok = let p = ok .plunger in record { plunger = p; exact = omega arith; settings = ok .settings }
+
+pub cut-keeps : (a : Activity) (b : Body) → BodyOk b → BodyOk (cutOf a b .next)
+unfolding cutOf
+cut-keeps (Initialising t) b ok = at-plunger b ok
+cut-keeps (Moving t) b ok = at-plunger b ok
+cut-keeps (Delaying k) b ok = ok
+cut-keeps Between b ok = ok
+
+pub reset-keeps : (b : Body) → BodyOk b → BodyOk (resetOf b .next)
+unfolding resetOf
+reset-keeps b ok = let p = ok .plunger in record { plunger = p; exact = omega arith; settings = usual-settings-are-kept }
+
+pub fresh-ok : BodyOk (freshBody .next)
+unfolding freshBody
+fresh-ok = record { plunger = omega arith; exact = omega arith; settings = usual-settings-are-kept }

@@ -1,0 +1,167 @@
+-- 01, "Ticks, volume and motion": what a command does to the body, and how a movement goes on.
+use Prim.Native.Nat.{ℕ, _+_, _-_, _*_}
+use mathlib.Core.Bool.{Bool, true, false}
+use lib.Dec.{ltb, leb, eqb}
+use Rattle.basics.specs.Choice.{if_then_else_}
+use Rattle.settings.specs.declared.Settings.{Settings}
+use Rattle.settings.specs.declared.Volume.{Volume}
+use Rattle.settings.specs.declared.Pace.{Pace}
+use Rattle.settings.specs.declared.Pace.the-variants.{Top, Start, Cutoff}
+use Rattle.settings.specs.Limits.{usualSettings}
+use Rattle.settings.specs.Units.{ticksOf, rateOf, millionthsOf, goalOf, goneOf}
+use Rattle.command.specs.declared.Way.{Way}
+use Rattle.command.specs.declared.Way.the-variants.{To, Up, Down}
+use Rattle.command.specs.declared.Command.{Command}
+use Rattle.command.specs.declared.Command.the-variants as C
+use Rattle.motion.specs.declared.Body.{Body}
+use Rattle.motion.specs.declared.Travel.{Travel}
+use Rattle.motion.specs.declared.Activity.{Activity}
+use Rattle.motion.specs.declared.Activity.the-variants.{Initialising, Moving, Delaying, Between}
+use Rattle.motion.specs.declared.Moment.{Moment}
+use Rattle.motion.specs.declared.Effect.{Effect}
+use Rattle.motion.specs.declared.Effect.the-variants.{Goes, Fails, Opens, Closes}
+use Rattle.motion.specs.declared.Target.{Target}
+use Rattle.motion.specs.declared.Target.the-variants.{At, Outside}
+use Rattle.motion.specs.Events.{Event, start, volume, Turn, quiet, told}
+
+-- a movement that sets out, and a tick later
+abbrev pub travel : ℕ → ℕ → ℕ → Travel
+travel from goal speed = record { from = from; goal = goal; speed = speed; ticks = 0 }
+
+abbrev pub laterOf : Travel → Travel
+laterOf t = record { from = t .from; goal = t .goal; speed = t .speed; ticks = t .ticks + 1 }
+
+-- where the plunger is by now: the distance gone, upwards or downwards
+unfoldable pub plungerOf : Travel → ℕ
+plungerOf t =
+    if leb (t .from) (t .goal)
+    then t .from + goneOf (t .ticks) (t .speed) (t .goal - t .from)
+    else t .from - goneOf (t .ticks) (t .speed) (t .from - t .goal)
+
+abbrev pub bodyAt : ℕ → Body → Body
+bodyAt p b = record { plunger = p; exact = b .exact; initialised = b .initialised; settings = b .settings }
+
+abbrev pub bodyFor : ℕ → Body → Body
+bodyFor e b = record { plunger = b .plunger; exact = e; initialised = b .initialised; settings = b .settings }
+
+abbrev pub bodyKnown : Bool → Body → Body
+bodyKnown i b = record { plunger = b .plunger; exact = b .exact; initialised = i; settings = b .settings }
+
+abbrev pub bodySet : Settings → Body → Body
+bodySet s b = record { plunger = b .plunger; exact = b .exact; initialised = b .initialised; settings = s }
+
+abbrev pub moment : Body → Activity → Moment
+moment b a = record { body = b; activity = a }
+
+-- "W clears "initialised", moves to 0, then sets it", at ten times its operand; the exact position is 0 in the tick that takes it
+unfoldable pub homeOf : ℕ → Body → Turn Effect
+homeOf speed b =
+    let cleared = bodyKnown false (bodyFor 0 b) in
+    told (start 0)
+    (if eqb (b .plunger) 0
+    then Goes (moment (bodyKnown true cleared) Between)
+    else Goes (moment cleared (Initialising (travel (b .plunger) 0 (speed * 10)))))
+
+-- "Result below 0 or above 44,000,000,000: refused, 3."
+unfoldable pub within : ℕ → Target
+within exact = if ltb 44000000000 exact then Outside else At exact
+
+-- "A sets, P adds, D subtracts."
+unfoldable pub targetOf : Way → ℕ → ℕ → Target
+targetOf To by exact = within by
+targetOf Up by exact = within (exact + by)
+targetOf Down by exact = if ltb exact by then Outside else within (exact - by)
+
+-- the body sets out for an exact position; "moves of no distance .. end in that tick"; "A movement keeps the V of its start."
+unfoldable pub setOut : ℕ → Body → Effect
+setOut exact b =
+    if eqb (b .plunger) (goalOf exact)
+    then Goes (moment (bodyFor exact b) Between)
+    else Goes (moment (bodyFor exact b) (Moving (travel (b .plunger) (goalOf exact) (b .settings .top))))
+
+-- what A, P and D add to the history: A is a start "at the exact place asked for"
+abbrev pub eventOf : Way → Volume → ℕ → ℕ → Event
+eventOf To v rate exact = start exact
+eventOf Up v rate exact = volume v rate true
+eventOf Down v rate exact = volume v rate false
+
+unfoldable pub aimed : Target → Way → Volume → Body → Turn Effect
+aimed (At exact) way v b = told (eventOf way v (b .settings .rate) exact) (setOut exact b)
+aimed Outside way v b = quiet (Fails 3)
+
+-- "7 is checked before 3."
+unfoldable pub moveOf : Way → Volume → Body → Turn Effect
+moveOf way v b =
+    if b .initialised
+    then aimed (targetOf way (millionthsOf v (b .settings .rate)) (b .exact)) way v b
+    else quiet (Fails 7)
+
+-- settings with one of them changed
+abbrev pub settingsOf : ℕ → ℕ → ℕ → ℕ → ℕ → ℕ → ℕ → Settings
+settingsOf a b c d e f g = record { top = a; start = b; cutoff = c; acceleration = d; deceleration = e; backlash = f; rate = g }
+
+abbrev pub pacedOf : Pace → ℕ → Settings → Settings
+pacedOf Top n s = settingsOf n (s .start) (s .cutoff) (s .acceleration) (s .deceleration) (s .backlash) (s .rate)
+pacedOf Start n s = settingsOf (s .top) n (s .cutoff) (s .acceleration) (s .deceleration) (s .backlash) (s .rate)
+pacedOf Cutoff n s = settingsOf (s .top) (s .start) n (s .acceleration) (s .deceleration) (s .backlash) (s .rate)
+
+abbrev pub slopedOf : ℕ → ℕ → Settings → Settings
+slopedOf up down s = settingsOf (s .top) (s .start) (s .cutoff) up down (s .backlash) (s .rate)
+
+abbrev pub backlashOf : ℕ → Settings → Settings
+backlashOf n s = settingsOf (s .top) (s .start) (s .cutoff) (s .acceleration) (s .deceleration) n (s .rate)
+
+abbrev pub ratedOf : ℕ → Settings → Settings
+ratedOf rate s = settingsOf (s .top) (s .start) (s .cutoff) (s .acceleration) (s .deceleration) (s .backlash) rate
+
+-- "Settings .. end in that tick."
+abbrev pub setTo : Settings → Body → Effect
+setTo s b = Goes (moment (bodySet s b) Between)
+
+-- "delays of 0 end in that tick"
+unfoldable pub delayOf : ℕ → Body → Effect
+delayOf ms b = if eqb (ticksOf ms) 0 then Goes (moment b Between) else Goes (moment b (Delaying (ticksOf ms)))
+
+unfoldable pub effectOf : Command → Body → Turn Effect
+effectOf (C.Initialise speed) b = homeOf speed b
+effectOf (C.Move way v) b = moveOf way v b
+effectOf (C.Speed pace n) b = quiet (setTo (pacedOf pace n (b .settings)) b)
+effectOf (C.Slopes up down) b = quiet (setTo (slopedOf up down (b .settings)) b)
+effectOf (C.Backlash n) b = quiet (setTo (backlashOf n (b .settings)) b)
+effectOf (C.Compensate n down) b = quiet (setTo (ratedOf (rateOf n down) (b .settings)) b)
+effectOf (C.Delay ms) b = quiet (delayOf ms b)
+effectOf C.Open b = quiet Opens
+effectOf (C.Close n) b = quiet (Closes n)
+
+-- a tick of a movement: the plunger where the distance gone puts it; once that is the goal it has ended, and W then sets "initialised"
+unfoldable pub carried : (Travel → Activity) → Bool → Travel → Body → Moment
+carried kind known t b =
+    if eqb (plungerOf t) (t .goal)
+    then moment (bodyKnown known (bodyAt (plungerOf t) b)) Between
+    else moment (bodyAt (plungerOf t) b) (kind t)
+
+-- a tick of what is in progress; `Between` once it has ended
+unfoldable pub onwardOf : Activity → Body → Moment
+onwardOf (Initialising t) b = carried Initialising true (laterOf t) b
+onwardOf (Moving t) b = carried Moving (b .initialised) (laterOf t) b
+onwardOf (Delaying k) b = if leb k 1 then moment b Between else moment b (Delaying (k - 1))
+onwardOf Between b = moment b Between
+
+-- the exact position "is the plunger's" "after a cut movement or a reset"
+abbrev pub atPlunger : Body → ℕ
+atPlunger b = b .plunger * 1000000
+
+-- T: "a movement is cut where the plunger is"; "T without movement doesn't touch" the exact position
+unfoldable pub cutOf : Activity → Body → Turn Body
+cutOf (Initialising t) b = told (start (atPlunger b)) (bodyFor (atPlunger b) b)
+cutOf (Moving t) b = told (start (atPlunger b)) (bodyFor (atPlunger b) b)
+cutOf (Delaying k) b = quiet b
+cutOf Between b = quiet b
+
+-- !R: "default settings, uninitialised, no error; the plunger stays"
+unfoldable pub resetOf : Body → Turn Body
+resetOf b = told (start (atPlunger b)) (bodySet usualSettings (bodyKnown false (bodyFor (atPlunger b) b)))
+
+-- "Fresh: plunger and exact position 0, as after reset."
+unfoldable pub freshBody : Turn Body
+freshBody = told (start 0) (record { plunger = 0; exact = 0; initialised = false; settings = usualSettings })

@@ -1,0 +1,418 @@
+// The plunger, its exact position and the settings: what a command does to them, and how a movement goes on. Nothing here knows a place in a text.
+use command::Command;
+use command::Way;
+use settings::Pace;
+use settings::Settings;
+use settings::Volume;
+use settings::units;
+ghost use mathlib.Core.Path.{_≡_};
+ghost use mathlib.Core.Bool.{true};
+ghost use Prim.Native.Nat.{_≤_};
+ghost use Rattle.settings.specs.Units.{rateOf};
+ghost use Rattle.motion.specs.Motion.{travel, laterOf, plungerOf, bodyAt, bodyFor, bodyKnown, moment, atPlunger, homeOf, targetOf, within, setOut, aimed, moveOf, pacedOf, slopedOf, backlashOf, ratedOf, setTo, delayOf, effectOf, carried, onwardOf, cutOf, resetOf, freshBody};
+ghost use Rattle.motion.specs.Bounds.{BodyOk, TravelOk, ActivityOk};
+
+// The exact position counts millionths of an increment.
+pub struct Body {
+    pub plunger: u32,
+    pub exact: u64,
+    pub initialised: bool,
+    pub settings: Settings,
+}
+
+// A movement from one place to another at a speed in tenths of an increment a second, after so many ticks.
+pub struct Travel {
+    pub from: u32,
+    pub goal: u32,
+    pub speed: u32,
+    pub ticks: u32,
+}
+
+// What is in progress. A delay has so many ticks left.
+pub enum Activity {
+    Initialising(Travel),
+    Moving(Travel),
+    Delaying(u32),
+    Between,
+}
+
+// A body and what it is about; `Between` where a command has ended.
+pub struct Moment {
+    pub body: Body,
+    pub activity: Activity,
+}
+
+// What a command does: the body goes on, the run fails with a number of 01's, or a loop begins or ends.
+pub enum Effect {
+    Goes(Moment),
+    Fails(u8),
+    Opens,
+    Closes(u32),
+}
+
+// The exact position that a move asks for.
+pub enum Target {
+    At(u64),
+    Outside,
+}
+
+impl Travel {
+    fn new(from: u32, goal: u32, speed: u32) -> Travel
+        ensures { λ r. ⌜ r ≡ travel «from» goal speed ⌝ }
+    {
+        Travel {
+            from,
+            goal,
+            speed,
+            ticks: 0,
+        }
+    }
+
+    // A tick on.
+    fn later(self) -> Travel
+        requires { ⌜ TravelOk self ⌝ }
+        ensures { λ r. ⌜ r ≡ laterOf self ⌝ }
+    {
+        Travel {
+            from: self.from,
+            goal: self.goal,
+            speed: self.speed,
+            ticks: self.ticks + 1,
+        }
+    }
+
+    // Where the plunger is by now.
+    fn plunger(self) -> u32
+        ensures { λ r. ⌜ r ≡ plungerOf self ⌝ }
+    {
+        let from = self.from;
+        let goal = self.goal;
+        if from <= goal {
+            let up = goal - from;
+            let gone = units::gone(self.ticks, self.speed, up);
+            return from + gone;
+        }
+        let down = from - goal;
+        let gone = units::gone(self.ticks, self.speed, down);
+        from - gone
+    }
+}
+
+// An exact position within travel.
+fn in_travel(exact: u64) -> Target
+    ensures { λ r. ⌜ r ≡ within exact ⌝ }
+{
+    if 44_000_000_000 < exact {
+        return Target::Outside;
+    }
+    Target::At(exact)
+}
+
+// The exact position that A, P or D asks for.
+fn asked_for(way: Way, by: u64, exact: u64) -> Target
+    requires { ⌜ exact ≤ 44000000000 ⌝ }
+    ensures { λ r. ⌜ r ≡ targetOf way by exact ⌝ }
+{
+    match way {
+        Way::To => in_travel(by),
+        Way::Up => {
+            if 44_000_000_000 < by {
+                return Target::Outside;
+            }
+            in_travel(exact + by)
+        }
+        Way::Down => {
+            if exact < by {
+                return Target::Outside;
+            }
+            in_travel(exact - by)
+        }
+    }
+}
+
+// V, v or c.
+fn paced(pace: Pace, tenths: u32, s: Settings) -> Settings
+    ensures { λ r. ⌜ r ≡ pacedOf pace tenths s ⌝ }
+{
+    let mut next = s;
+    match pace {
+        Pace::Top => {
+            next.top = tenths;
+            return next;
+        }
+        Pace::Start => {
+            next.start = tenths;
+            return next;
+        }
+        Pace::Cutoff => {
+            next.cutoff = tenths;
+            return next;
+        }
+    }
+}
+
+// L.
+fn sloped(up: u32, down: u32, s: Settings) -> Settings
+    ensures { λ r. ⌜ r ≡ slopedOf up down s ⌝ }
+{
+    let mut next = s;
+    next.acceleration = up;
+    next.deceleration = down;
+    next
+}
+
+// K.
+fn backlashed(n: u32, s: Settings) -> Settings
+    ensures { λ r. ⌜ r ≡ backlashOf n s ⌝ }
+{
+    let mut next = s;
+    next.backlash = n;
+    next
+}
+
+// b.
+fn compensated(b: u16, down: bool, s: Settings) -> Settings
+    ensures { λ r. ⌜ r ≡ ratedOf (rateOf b down) s ⌝ }
+{
+    let mut next = s;
+    let rate = units::rate(b, down);
+    next.rate = rate;
+    next
+}
+
+impl Body {
+    pub fn fresh() -> Body
+        ensures { λ r. ⌜ r ≡ freshBody .next ⌝ }
+    {
+        let settings = Settings::default();
+        Body {
+            plunger: 0,
+            exact: 0,
+            initialised: false,
+            settings,
+        }
+    }
+
+    fn goes(self, activity: Activity) -> Effect
+        ensures { λ r. ⌜ r ≡ Effect.Goes (moment self activity) ⌝ }
+    {
+        Effect::Goes(Moment {
+            body: self,
+            activity,
+        })
+    }
+
+    // W.
+    fn home(self, speed: u16) -> Effect
+        ensures { λ r. ⌜ r ≡ homeOf speed self .next ⌝ }
+    {
+        let from = self.plunger;
+        let tenths = (speed as u32) * 10;
+        let settings = self.settings;
+        if from == 0 {
+            let at = Body {
+                plunger: from,
+                exact: 0,
+                initialised: true,
+                settings,
+            };
+            return at.goes(Activity::Between);
+        }
+        let cleared = Body {
+            plunger: from,
+            exact: 0,
+            initialised: false,
+            settings,
+        };
+        cleared.goes(Activity::Initialising(Travel::new(from, 0, tenths)))
+    }
+
+    // Towards an exact position within travel.
+    fn set_out(self, exact: u64) -> Effect
+        requires { ⌜ exact ≤ 44000000000 ⌝ }
+        ensures { λ r. ⌜ r ≡ setOut exact self ⌝ }
+    {
+        let from = self.plunger;
+        let settings = self.settings;
+        let goal = units::goal(exact) as u32;
+        let body = Body {
+            plunger: from,
+            exact,
+            initialised: self.initialised,
+            settings,
+        };
+        if from == goal {
+            return body.goes(Activity::Between);
+        }
+        body.goes(Activity::Moving(Travel::new(from, goal, settings.top)))
+    }
+
+    // A, P and D.
+    fn shift(self, way: Way, volume: Volume) -> Effect
+        requires { ⌜ BodyOk self ⌝ }
+        ensures { λ r. ⌜ r ≡ moveOf way volume self .next ⌝ }
+    {
+        if !self.initialised {
+            return Effect::Fails(7);
+        }
+        let settings = self.settings;
+        let by = volume.millionths(settings.rate);
+        match asked_for(way, by, self.exact) {
+            Target::At(exact) => self.set_out(exact),
+            Target::Outside => Effect::Fails(3),
+        }
+    }
+
+    // A setting.
+    fn set_to(self, settings: Settings) -> Effect
+        ensures { λ r. ⌜ r ≡ setTo settings self ⌝ }
+    {
+        let body = Body {
+            plunger: self.plunger,
+            exact: self.exact,
+            initialised: self.initialised,
+            settings,
+        };
+        body.goes(Activity::Between)
+    }
+
+    // M.
+    fn delay(self, ms: u32) -> Effect
+        ensures { λ r. ⌜ r ≡ delayOf ms self ⌝ }
+    {
+        let k = units::ticks(ms);
+        if k == 0 {
+            return self.goes(Activity::Between);
+        }
+        self.goes(Activity::Delaying(k))
+    }
+
+    // What a command does.
+    pub fn effect(self, c: Command) -> Effect
+        requires { ⌜ BodyOk self ⌝ }
+        ensures { λ r. ⌜ r ≡ effectOf c self .next ⌝ }
+    {
+        let settings = self.settings;
+        match c {
+            Command::Initialise(speed) => self.home(speed),
+            Command::Move(way, volume) => self.shift(way, volume),
+            Command::Speed(pace, tenths) => self.set_to(paced(pace, tenths, settings)),
+            Command::Slopes(up, down) => self.set_to(sloped(up, down, settings)),
+            Command::Backlash(n) => self.set_to(backlashed(n, settings)),
+            Command::Compensate(b, down) => self.set_to(compensated(b, down, settings)),
+            Command::Delay(ms) => self.delay(ms),
+            Command::Open => Effect::Opens,
+            Command::Close(n) => Effect::Closes(n),
+        }
+    }
+
+    // The plunger moved, and what is known of it.
+    fn moved(self, plunger: u32, initialised: bool, activity: Activity) -> Moment
+        ensures { λ r. ⌜ r ≡ moment (bodyKnown initialised (bodyAt plunger self)) activity ⌝ }
+    {
+        let settings = self.settings;
+        Moment {
+            body: Body {
+                plunger,
+                exact: self.exact,
+                initialised,
+                settings,
+            },
+            activity,
+        }
+    }
+
+    // A tick of W's movement.
+    fn homewards(self, t: Travel) -> Moment
+        ensures { λ r. ⌜ r ≡ carried Activity.Initialising true t self ⌝ }
+    {
+        let p = t.plunger();
+        if p == t.goal {
+            return self.moved(p, true, Activity::Between);
+        }
+        self.moved(p, self.initialised, Activity::Initialising(t))
+    }
+
+    // A tick of a movement.
+    fn forwards(self, t: Travel) -> Moment
+        ensures { λ r. ⌜ r ≡ carried Activity.Moving (self .initialised) t self ⌝ }
+    {
+        let p = t.plunger();
+        if p == t.goal {
+            return self.moved(p, self.initialised, Activity::Between);
+        }
+        self.moved(p, self.initialised, Activity::Moving(t))
+    }
+
+    // A tick of a delay.
+    fn waited(self, k: u32) -> Moment
+        ensures { λ r. ⌜ r ≡ onwardOf (Activity.Delaying k) self ⌝ }
+    {
+        if k <= 1 {
+            return Moment {
+                body: self,
+                activity: Activity::Between,
+            };
+        }
+        Moment {
+            body: self,
+            activity: Activity::Delaying(k - 1),
+        }
+    }
+
+    // A tick of what is in progress.
+    pub fn onward(self, activity: Activity) -> Moment
+        requires { ⌜ ActivityOk activity ⌝ }
+        ensures { λ r. ⌜ r ≡ onwardOf activity self ⌝ }
+    {
+        match activity {
+            Activity::Initialising(t) => self.homewards(t.later()),
+            Activity::Moving(t) => self.forwards(t.later()),
+            Activity::Delaying(k) => self.waited(k),
+            Activity::Between => Moment {
+                body: self,
+                activity: Activity::Between,
+            },
+        }
+    }
+
+    // The exact position at the plunger.
+    fn at_plunger(self) -> Body
+        ensures { λ r. ⌜ r ≡ bodyFor (atPlunger self) self ⌝ }
+    {
+        let settings = self.settings;
+        let exact = (self.plunger as u64) * 1_000_000;
+        Body {
+            plunger: self.plunger,
+            exact,
+            initialised: self.initialised,
+            settings,
+        }
+    }
+
+    // T.
+    pub fn cut(self, activity: Activity) -> Body
+        ensures { λ r. ⌜ r ≡ cutOf activity self .next ⌝ }
+    {
+        match activity {
+            Activity::Initialising(_) => self.at_plunger(),
+            Activity::Moving(_) => self.at_plunger(),
+            Activity::Delaying(_) => self,
+            Activity::Between => self,
+        }
+    }
+
+    // !R.
+    pub fn reset(self) -> Body
+        ensures { λ r. ⌜ r ≡ resetOf self .next ⌝ }
+    {
+        let settings = Settings::default();
+        let exact = (self.plunger as u64) * 1_000_000;
+        Body {
+            plunger: self.plunger,
+            exact,
+            initialised: false,
+            settings,
+        }
+    }
+}
