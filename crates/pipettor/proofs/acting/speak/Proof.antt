@@ -1,0 +1,19 @@
+use borrow.Author.Needs.{needs}
+use Rattle.pipettor.proofs.Tasks.{says, says-never}
+use Rattle.pipettor.proofs.acting.speak.Statement.{statement}
+use Rattle.pipettor.proofs.acting.speak.Tie as tie
+
+ruleset laws = (needs, says, says-never)
+
+pub speak-spec : {M : Type 1} → statement M
+speak-spec =
+    tie.close
+    (tie.spec
+    (λ c κs. search laws)
+    (λ c κs. search laws)
+    (λ c. search laws)
+    (λ c. search laws)
+    (λ c. search laws)
+    (λ c. search laws)
+    (λ c. search laws)
+    (λ c. search laws))

@@ -1,0 +1,5 @@
+pub mod Address
+pub mod Reports
+pub mod Byte
+pub mod Controller
+pub mod Valid

@@ -1,0 +1,171 @@
+// The controller of one pipettor: bytes in, answers out, ticks between them.
+pub mod acting;
+pub mod address;
+pub mod reports;
+
+use address::Address;
+use line::Line;
+use machine::Device;
+use machine::Used;
+ghost use mathlib.Core.Path.{_≡_};
+ghost use Rattle.pipettor.specs.Valid.{Valid};
+ghost use Rattle.pipettor.specs.Byte.{after, byteOf};
+ghost use Rattle.pipettor.specs.Controller.{madeOf, tickedOf, stoppedOf, advancedOf, runOf};
+
+// The receiver's line and the frame in hand; the buffer, its text and the plunger.
+pub struct Controller {
+    pub address: Address,
+    pub line: Line,
+    pub frame: [u8; 320],
+    pub device: Device,
+}
+
+// Nothing, an answer of so many bytes, or that the buffer lent is shorter than 32 bytes.
+pub enum Said {
+    Silent,
+    Answer(usize),
+    S1,
+}
+
+pub struct Reply {
+    pub controller: Controller,
+    pub said: Said,
+}
+
+pub struct Ran {
+    pub controller: Controller,
+    pub used: Used,
+}
+
+impl Controller {
+    pub fn fresh(address: Address) -> Controller
+        ensures { λ r. ⌜ r ≡ madeOf address .next ⌝ }
+    {
+        let device = Device::fresh();
+        Controller {
+            address,
+            line: Line::Outside,
+            frame: [0u8; 320],
+            device,
+        }
+    }
+
+    // One byte received, with a buffer lent for the answer.
+    pub fn byte(self, b: u8, buf: &mut [u8]) -> Reply
+        requires { ⌜ Valid self ⌝ }
+        ensures { λ r. ⌜ after r (now (buf .exit)) ≡ byteOf self b (now (buf .entry)) .next ⌝ }
+    {
+        if buf.len() < 32 {
+            return Reply {
+                controller: self,
+                said: Said::S1,
+            };
+        }
+        let address = self.address;
+        let line = self.line;
+        let mut frame = self.frame;
+        let device = self.device;
+        let mut text = device.text;
+        let core = device.core;
+        let course = core.course;
+        let state = course.state;
+        let len = course.len;
+        let heard = line.hear(b);
+        let deed = heard.deed;
+        let next = heard.line;
+        line::keep(&mut frame, deed, b);
+        let got = acting::get(&mut frame, deed, address.letter());
+        let task = got.task(state);
+        let n = got.size();
+        let code = task.code(&text[..len], &frame[..n]);
+        task.store(code, len, &frame[..n], &mut text);
+        let outcome = got.outcome(address, code, core);
+        let done = task.done(code, n, core);
+        let said = outcome.say(done.ready(), buf);
+        Reply {
+            controller: Controller {
+                address,
+                line: next,
+                frame,
+                device: Device { text, core: done },
+            },
+            said,
+        }
+    }
+
+    // A tick of 10 ms.
+    pub fn tick(self) -> Controller
+        requires { ⌜ Valid self ⌝ }
+        ensures { λ r. ⌜ r ≡ tickedOf self .next ⌝ }
+    {
+        let address = self.address;
+        let line = self.line;
+        let frame = self.frame;
+        let device = self.device;
+        let after = device.tick();
+        Controller {
+            address,
+            line,
+            frame,
+            device: after,
+        }
+    }
+
+    // Exactly n ticks, ready or not.
+    pub fn advance(self, n: u32) -> Controller
+        requires { ⌜ Valid self ⌝ }
+        ensures { λ r. ⌜ r ≡ advancedOf n self ⌝ }
+    {
+        let address = self.address;
+        let line = self.line;
+        let frame = self.frame;
+        let device = self.device;
+        let after = device.advance(n);
+        Controller {
+            address,
+            line,
+            frame,
+            device: after,
+        }
+    }
+
+    // Up to n ticks, until ready.
+    pub fn run(self, n: u32) -> Ran
+        requires { ⌜ Valid self ⌝ }
+        ensures { λ r. ⌜ r ≡ runOf n self ⌝ }
+    {
+        let address = self.address;
+        let line = self.line;
+        let frame = self.frame;
+        let device = self.device;
+        let ran = device.run(n);
+        let after = ran.device;
+        let used = ran.used;
+        Ran {
+            controller: Controller {
+                address,
+                line,
+                frame,
+                device: after,
+            },
+            used,
+        }
+    }
+
+    // T, from the host.
+    pub fn stop(self) -> Controller
+        ensures { λ r. ⌜ r ≡ stoppedOf self .next ⌝ }
+    {
+        let address = self.address;
+        let line = self.line;
+        let frame = self.frame;
+        let device = self.device;
+        let after = device.stop();
+        Controller {
+            address,
+            line,
+            frame,
+            device: after,
+        }
+    }
+}
