@@ -5,9 +5,6 @@ use command::Refusal;
 use command::Way;
 use settings::Pace;
 use settings::Volume;
-ghost use Rattle.command_run.specs.Lines.{Ends};
-ghost use Prim.Native.Nat.{_≤_};
-ghost use lib.ListN.{length};
 
 fn say(what: &[u8]) {
     io::write_all(1, what);
@@ -121,25 +118,10 @@ fn line(t: &[u8]) {
     say(b"\n");
 }
 
-// Where the line ends that begins at `from`: at its LF, or with the text.
-fn line_end(t: &[u8], from: usize) -> usize
-    requires { ⌜ from ≤ length (now t) ⌝ }
-    ensures { λ r. ⌜ Ends (now (t .entry)) from r ⌝ }
-{
-    let mut i = from;
-    while i < t.len() {
-        if t[i] == b'\n' {
-            return i;
-        }
-        i += 1;
-    }
-    i
-}
-
 fn lines(t: &[u8]) {
     let mut from = 0;
     while from < t.len() {
-        let end = line_end(t, from);
+        let end = desk::line_end(t, from);
         line(&t[from..end]);
         from = end + 1;
     }

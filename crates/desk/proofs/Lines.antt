@@ -1,14 +1,12 @@
 -- Laws of `specs/Desk`, one for each return of the code.
-use mathlib.Core.Path.{_≡_, refl, sym, _∙_}
+use mathlib.Core.Path.{_≡_, refl, _∙_}
 use mathlib.Core.Bool.{Bool, true, false}
 use mathlib.Core.List.{List, [], _∷_}
 use Prim.Native.Nat.{ℕ, _+_, _-_, _/_, _≤_, _<_}
 use native.Mathlib.Omega.{arith}
 use borrow.Author.Tests.{lt-leb, le-leb, eq-eqb, ne-eqb}
-use lib.Dec.{eqb}
 use lib.ListN.{length, getD, take, drop, drop-of-length-le}
 use Rattle.basics.specs.Bytes.{zeroDigit, every}
-use Rattle.basics.proofs.Choice.{by}
 use Rattle.basics.proofs.Rules.{tests}
 use Rattle.basics.proofs.Lists.{drop-step, tail-all, empty, full}
 use Rattle.line.specs.Wire.{printable}
@@ -17,7 +15,7 @@ use Rattle.operand.specs.declared.Number.the-variants as N
 use Rattle.operand.specs.Number.{numberOf}
 use Rattle.desk.specs.declared.Asked.{Asked}
 use Rattle.desk.specs.declared.Asked.the-variants.{Send, Ticks, Wrong}
-use Rattle.desk.specs.Desk.{countedOf, ticksOf, formOf, askedOf, printedOf, lineOf}
+use Rattle.desk.specs.Desk.{countedOf, ticksOf, formOf, askedOf, printedOf, lineOf, LineEnd}
 
 -- every byte printable: what is left decides
 pub record Passed (p : ℕ → Bool) (t : List ℕ) (i : ℕ) : Type 0 where
@@ -143,30 +141,33 @@ module _ (n : ℕ) (answer : List ℕ) where
   unfolding printedOf
   status-and-data h k = let z : n - 3 - 2 ≡ n - 5 = omega arith in rw (le-leb n (length answer) h, z)
 
--- the line's length: i bytes, and then what is left of it
-pub record Long (t : List ℕ) (i : ℕ) : Type 0 where
-  pub within : i ≤ length t
-  pub same : length (lineOf t) ≡ i + length (lineOf (drop i t))
+-- on the way to a line's end: what is left of it begins here
+pub record Along (t : List ℕ) (from i : ℕ) : Type 0 where
+  pub behind : from ≤ i
+  pub inside : i ≤ from + (length t - from)
+  pub same : from + length (lineOf (drop from t)) ≡ i + length (lineOf (drop i t))
 
-module _ (t : List ℕ) where
-  pub line-begins : Long t 0
-  line-begins = record { within = omega arith; same = omega arith }
+module _ (t : List ℕ) (from : ℕ) where
+  pub line-begins : Along t from from
+  line-begins = record { behind = omega arith; inside = omega arith; same = refl }
 
-  module _ (i : ℕ) (r : Long t i) where
-    pub line-ends : length t ≤ i → i ≡ length (lineOf t)
+  module _ (i : ℕ) (r : Along t from i) where
+    -- the line ends where nothing of it is left
+    ended : length (lineOf (drop i t)) ≡ 0 → LineEnd t from i
+    ended z = let e = rw z at (r .same) in record { place = omega arith; behind = r .behind; inside = r .inside }
+
+    pub line-ends : length t ≤ i → LineEnd t from i
     unfolding lineOf
-    line-ends h = let e = rw (drop-of-length-le t h) at (r .same) in omega arith
+    line-ends h = ended (rw (drop-of-length-le t h))
 
     module _ (h : i < length t) where
-      pub at-lf : getD t i 0 ≡ 10 → i ≡ length (lineOf t)
+      pub at-lf : getD t i 0 ≡ 10 → LineEnd t from i
       unfolding lineOf
-      at-lf q = let e = rw (drop-step t i h, eq-eqb (getD t i 0) 10 q) at (r .same) in omega arith
+      at-lf q = ended (rw (drop-step t i h, eq-eqb (getD t i 0) 10 q))
 
-      pub line-goes-on : (getD t i 0 ≡ 10 → ⊥) → Long t (i + 1)
+      pub line-goes-on : (getD t i 0 ≡ 10 → ⊥) → Along t from (i + 1)
       unfolding lineOf
-      line-goes-on q = let e = rw (drop-step t i h, ne-eqb (getD t i 0) 10 q) at (r .same) in record { within = omega arith; same = omega arith }
-
-pub line-within : (t : List ℕ) → length (lineOf t) ≤ length t
-unfolding lineOf
-line-within [] = omega arith
-line-within (b ∷ t) = let h = line-within t in by (λ (x : List ℕ). length x ≤ length (b ∷ t)) (eqb b 10) (λ e. omega arith) (λ e. omega arith)
+      line-goes-on q =
+          let e = rw (drop-step t i h, ne-eqb (getD t i 0) 10 q) at (r .same) in
+          let b = r .behind in
+          record { behind = omega arith; inside = omega arith; same = omega arith }

@@ -1,5 +1,6 @@
 -- 01, "The bench program": what a line asks, and what is printed of an answer.
-use Prim.Native.Nat.{ℕ, _-_, _/_}
+use Prim.Native.Nat.{ℕ, _+_, _-_, _/_, _≤_}
+use mathlib.Core.Path.{_≡_}
 use mathlib.Core.Bool.{Bool, _&&_}
 use mathlib.Core.List.{List, [], _∷_}
 use lib.Dec.{ltb, leb, eqb}
@@ -42,3 +43,9 @@ printedOf n answer = if leb n (length answer) then take (n - 5) (drop 2 answer) 
 unfoldable pub lineOf : List ℕ → List ℕ
 lineOf [] = []
 lineOf (b ∷ t) = if eqb b 10 then [] else b ∷ lineOf t
+
+-- where a line ends that begins at a place: the place and the line's length on; not before the place, nor behind the text
+pub record LineEnd (t : List ℕ) (from r : ℕ) : Type 0 where
+  pub place : r ≡ from + length (lineOf (drop from t))
+  pub behind : from ≤ r
+  pub inside : r ≤ from + (length t - from)

@@ -1,10 +1,9 @@
 // The bench program's lines: what a line asks, and what is printed of an answer.
 use operand::Number;
 ghost use mathlib.Core.Path.{_≡_};
-ghost use lib.ListN.{length};
 ghost use Rattle.line.specs.Wire.{printable};
 ghost use Rattle.basics.specs.Bytes.{every};
-ghost use Rattle.desk.specs.Desk.{countedOf, ticksOf, formOf, askedOf, printedOf, lineOf};
+ghost use Rattle.desk.specs.Desk.{countedOf, ticksOf, formOf, askedOf, printedOf, LineEnd};
 
 // A frame, whose text stands behind the first two bytes; so many ticks; a wrong line.
 pub enum Asked {
@@ -109,11 +108,11 @@ pub fn printed(n: usize, answer: &[u8]) -> &[u8]
     &answer[2..end]
 }
 
-// How long the line is that a text begins with: up to its LF, or all of it.
-pub fn line_length(t: &[u8]) -> usize
-    ensures { λ r. ⌜ r ≡ length (lineOf (now (t .entry))) ⌝ }
+// Where the line ends that begins at a place of a text: at its LF, or with the text. From behind the text there is nothing.
+pub fn line_end(t: &[u8], from: usize) -> usize
+    ensures { λ r. ⌜ LineEnd (now (t .entry)) from r ⌝ }
 {
-    let mut i = 0;
+    let mut i = from;
     while i < t.len() {
         let b = t[i];
         if b == 10 {

@@ -55,7 +55,7 @@ call-is-sound stop d s h =
     }
 
 -- events after events are added to their sum
-added-on : (s : Sum) (es fs : List Event) → addedUp s (es ++ fs) ≡ addedUp (addedUp s es) fs
+pub added-on : (s : Sum) (es fs : List Event) → addedUp s (es ++ fs) ≡ addedUp (addedUp s es) fs
 unfolding addedUp
 added-on s [] fs = refl
 added-on s (e ∷ es) fs = added-on (counted s e) es fs

@@ -9,6 +9,8 @@ pub mod Looping
 pub mod Position
 pub mod History
 pub mod Movement
+pub mod Skipping
+pub mod Leaping
 pub mod Starts
 pub mod Examples
 pub mod Refusals

@@ -29,11 +29,11 @@ use Rattle.machine.specs.Movement.{distanceOf, timeOf, since, UnderWay, 
 use Rattle.machine.proofs.Runs.{ticks-more}
 
 module _ (a b : ℕ) where
-  upwards : a ≤ b → b - a ≡ distanceOf a b
+  pub upwards : a ≤ b → b - a ≡ distanceOf a b
   unfolding distanceOf
   upwards h = omega arith
 
-  downwards : b < a → a - b ≡ distanceOf a b
+  pub downwards : b < a → a - b ≡ distanceOf a b
   unfolding distanceOf
   downwards h = omega arith
 
@@ -69,36 +69,36 @@ module _ (t : Travel) where
       omega (arith, left-and-gone-are-the-distance (since t (timeOf t)), movement-arrives (t .speed) (distanceOf (t .from) (t .goal)) moves)
 
   -- .. and not before
-  away : 0 < t .speed → (k : ℕ) → k < timeOf t → plungerOf (since t k) ≡ t .goal → ⊥
+  pub away : 0 < t .speed → (k : ℕ) → k < timeOf t → plungerOf (since t k) ≡ t .goal → ⊥
   unfolding timeOf distanceOf
   away moves k l e =
       omega (arith, left-and-gone-are-the-distance (since t k), movement-arrives-no-sooner (t .speed) (distanceOf (t .from) (t .goal)) moves k l)
 
 -- a tick of a movement's core
-onward : Moment → Core → Core
+unfoldable pub onward : Moment → Core → Core
 onward m c = core (m .body) (goneOn (m .activity) (c .course .at) (c .course))
 
 -- the two kinds of movement differ in what they make of "initialised" at their end
-record Kind (kind : Travel → Activity) (known : Bool → Bool) : Type 0 where
-  ticks : (text : List ℕ) (c : Core) (t : Travel) → activeOf (Running (kind t)) text c .next ≡ onward (carried kind (known (c .body .initialised)) (laterOf t) (c .body)) c
-  fine : (t : Travel) → ActivityOk (kind t) → TravelOk t
-  stays : (t : Travel) (c : Course) → goneOn (kind t) (c .at) c ≡ inState (Running (kind t)) c
+pub record Kind (kind : Travel → Activity) (known : Bool → Bool) : Type 0 where
+  pub ticks : (text : List ℕ) (c : Core) (t : Travel) → activeOf (Running (kind t)) text c .next ≡ onward (carried kind (known (c .body .initialised)) (laterOf t) (c .body)) c
+  pub fine : (t : Travel) → ActivityOk (kind t) → TravelOk t
+  pub stays : (t : Travel) (c : Course) → goneOn (kind t) (c .at) c ≡ inState (Running (kind t)) c
 
-a-move : Kind Moving (λ i. i)
+pub a-move : Kind Moving (λ i. i)
 unfolding activeOf carriedOn onwardOf goneOn onward
 a-move = record { ticks = λ text c t. refl; fine = λ t h. h; stays = λ t c. refl }
 
-initialising : Kind Initialising (λ i. true)
+pub initialising : Kind Initialising (λ i. true)
 unfolding activeOf carriedOn onwardOf goneOn onward
 initialising = record { ticks = λ text c t. refl; fine = λ t h. h; stays = λ t c. refl }
 
 module _ (kind : Travel → Activity) (known : Bool → Bool) (is : Kind kind known) (text : List ℕ) where
   module _ (d : Core) (t : Travel) (running : d .course .state ≡ Running (kind t)) where
-    one-tick : stepOf text d .next ≡ onward (carried kind (known (d .body .initialised)) (laterOf t) (d .body)) d
+    pub one-tick : stepOf text d .next ≡ onward (carried kind (known (d .body .initialised)) (laterOf t) (d .body)) d
     unfolding stepOf
     one-tick = ap (λ (s : State). activeOf s text d .next) running ∙ is .ticks text d t
 
-    goes-on : (plungerOf (laterOf t) ≡ t .goal → ⊥) → stepOf text d .next ≡ core (bodyAt (plungerOf (laterOf t)) (d .body)) (inState (Running (kind (laterOf t))) (d .course))
+    pub goes-on : (plungerOf (laterOf t) ≡ t .goal → ⊥) → stepOf text d .next ≡ core (bodyAt (plungerOf (laterOf t)) (d .body)) (inState (Running (kind (laterOf t))) (d .course))
     unfolding carried onward
     goes-on h = one-tick ∙ rw (ne-eqb (plungerOf (laterOf t)) (t .goal) h, is .stays (laterOf t) (d .course))
 

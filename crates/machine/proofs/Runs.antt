@@ -1,21 +1,17 @@
 -- Laws of `specs/Run`, and that a run's count is the least number of ticks after which it is ready, up to the allowance.
-use mathlib.Core.Path.{_≡_, refl, sym, ap, _∙_}
+use mathlib.Core.Path.{_≡_, refl, sym}
 use mathlib.Core.Bool.{Bool, true, false, false≢true}
 use mathlib.Core.List.{List}
 use Prim.Native.Nat.{ℕ, zero, suc, _+_, _-_, _≤_, _<_}
-use native.Mathlib.Numerals.{add-one, sub-one}
+use native.Mathlib.Numerals.{sub-one}
 use native.Mathlib.Omega.{arith}
-use lib.ListN.{length}
 use Rattle.basics.specs.Choice.{if_then_else_}
 use Rattle.basics.proofs.Choice.{by}
 use Rattle.machine.specs.declared.course.State.{State}
 use Rattle.machine.specs.declared.course.State.the-variants as State
 use Rattle.machine.specs.declared.step.Core.{Core}
-use Rattle.machine.specs.declared.step.Ticked.{Ticked}
 use Rattle.machine.specs.Step.{activeOf, stepOf}
-use Rattle.machine.specs.Run.{readyIn, readyOf, ticksOf, usedOf, runOf}
-use Rattle.machine.specs.Valid.{Valid, Ready}
-use Rattle.machine.proofs.Keeps.{step-keeps}
+use Rattle.machine.specs.Run.{readyIn, readyOf, ticksOf, usedOf}
 
 -- a tick more, at the end
 pub ticks-more : (n : ℕ) (text : List ℕ) (c : Core) → ticksOf (suc n) text c ≡ stepOf text (ticksOf n text c) .next
@@ -23,12 +19,12 @@ unfolding ticksOf
 ticks-more zero text c = refl
 ticks-more (suc n) text c = ticks-more n text (stepOf text c .next)
 
-used-none : (n : ℕ) (text : List ℕ) (c : Core) → readyOf c ≡ true → usedOf n text c ≡ 0
+pub used-none : (n : ℕ) (text : List ℕ) (c : Core) → readyOf c ≡ true → usedOf n text c ≡ 0
 unfolding usedOf
 used-none zero text c r = refl
 used-none (suc n) text c r = rw r
 
-used-more : (n : ℕ) (text : List ℕ) (c : Core) → 0 < n → readyOf c ≡ false → usedOf n text c ≡ 1 + usedOf (n - 1) text (stepOf text c .next)
+pub used-more : (n : ℕ) (text : List ℕ) (c : Core) → 0 < n → readyOf c ≡ false → usedOf n text c ≡ 1 + usedOf (n - 1) text (stepOf text c .next)
 unfolding usedOf
 used-more zero text c h r = absurd (omega arith)
 used-more (suc n) text c h r = rw (r, sub-one (suc n)) (omega arith)
@@ -99,38 +95,3 @@ ready-after (suc n) text c h = go (readyOf c) refl (ready-after n text (stepOf t
         → (if b then zero else suc more) < suc n → readyOf (ticksOf (if b then zero else suc more) text c) ≡ true
     go true r f h = r
     go false r f h = f (omega arith)
-
--- so many ticks are used, and what is left of the run makes up the whole
-pub record Running (start : Core) (text : List ℕ) (n : ℕ) (c : Core) (used : ℕ) : Type 0 where
-  pub ready : Ready c text
-  pub within : used ≤ n
-  pub here : c ≡ ticksOf used text start
-  pub count : usedOf n text start ≡ used + usedOf (n - used) text c
-
-module _ (start : Core) (text : List ℕ) (n : ℕ) where
-  pub begins : Ready start text → Running start text n start 0
-  unfolding ticksOf
-  begins r = let z : n - 0 ≡ n = omega arith in record { ready = r; within = omega arith; here = refl; count = rw z (omega arith) }
-
-  module _ (c : Core) (used : ℕ) (r : Running start text n c used) where
-    stops : usedOf (n - used) text c ≡ 0 → record { core = c; used = used } ≡ runOf n text start
-    unfolding runOf
-    stops z = let e : usedOf n text start ≡ used = omega (arith, r .count) in rw (e, r .here)
-
-    pub is-ready : (b : Bool) → b ≡ readyOf c → b ≡ true → record { core = c; used = used } ≡ runOf n text start
-    is-ready b p e = stops (used-none (n - used) text c (sym p ∙ e))
-
-    pub is-over : n ≤ used → record { core = c; used = used } ≡ runOf n text start
-    unfolding usedOf
-    is-over h = let z : n - used ≡ 0 = omega arith in stops (rw z)
-
-    pub goes-on : (b : Bool) (d : Core) → used < n → b ≡ readyOf c → b ≡ false → d ≡ stepOf text c .next → Running start text n d (used + 1)
-    goes-on b d h p e s =
-        let busy : readyOf c ≡ false = sym p ∙ e in
-        let less : n - (used + 1) ≡ n - used - 1 = omega arith in
-        record {
-          ready = record { valid = rw s (step-keeps c (r .ready .valid) text); long = r .ready .long };
-          within = omega arith;
-          here = s ∙ ap (λ (x : Core). stepOf text x .next) (r .here) ∙ rw add-one (sym (ticks-more used text start));
-          count = rw (less, s) (omega (arith, r .count, used-more (n - used) text c (omega arith) busy));
-        }

@@ -6,5 +6,6 @@ pub mod Valid
 pub mod Device
 pub mod History
 pub mod Movement
+pub mod Skip
 pub mod Refusals
 pub mod OnCourse

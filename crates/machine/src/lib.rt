@@ -1,6 +1,7 @@
 // The command buffer and the step machine: what a tick, a string and a control do.
 pub mod buffer;
 pub mod course;
+pub mod skip;
 pub mod step;
 
 use course::Course;

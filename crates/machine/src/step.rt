@@ -11,6 +11,7 @@ ghost use lib.ListN.{length, take};
 ghost use Rattle.command.specs.Command.{commandAt};
 ghost use Rattle.machine.specs.Step.{appliedOf, takenOf, carriedOn, activeOf, stepOf};
 ghost use Rattle.machine.specs.Run.{readyOf, runOf};
+ghost use Rattle.machine.specs.Skip.{leaptOf};
 ghost use Rattle.machine.specs.Valid.{Ticking, Ready};
 ghost use Rattle.motion.specs.Bounds.{BodyOk, ActivityOk};
 
@@ -158,6 +159,18 @@ impl Core {
             State::Done => self,
         }
     }
+
+    // The ticks passed over, of so many, and the next tick.
+    fn leap(self, text: &[u8], most: u32) -> Ticked
+        requires { ⌜ Ready self (now text) ⌝ }
+        ensures { λ r. ⌜ r ≡ leaptOf most (now (text .entry)) self ⌝ }
+    {
+        let skipped = self.skip(most);
+        let n = skipped.used;
+        let before = skipped.core;
+        let core = before.step(text);
+        Ticked { core, used: n + 1 }
+    }
 }
 
 // Up to n ticks, until ready.
@@ -171,8 +184,10 @@ pub fn run(start: Core, text: &[u8], n: u32) -> Ticked
         if c.ready() {
             return Ticked { core: c, used };
         }
-        c = c.step(text);
-        used += 1;
+        let left = n - used;
+        let leapt = c.leap(text, left - 1);
+        c = leapt.core;
+        used += leapt.used;
     }
     Ticked { core: c, used }
 }

@@ -1,4 +1,4 @@
--- Theorems: `Valid` holds of a controller that is made, and is kept by bytes, ticks, runs and stops; so are the lengths of its two arrays.
+-- Theorems: `Valid` holds of a controller that is made, and is kept by bytes, one or many, ticks, runs and stops; so are the lengths of its two arrays.
 use mathlib.Core.Path.{_≡_, refl, _∙_}
 use mathlib.Core.List.{List}
 use Prim.Native.Nat.{ℕ, zero, suc, _≤_}
@@ -8,6 +8,7 @@ use lib.ListN.{length, take}
 use lib.Seq.{length-take-le}
 use Rattle.basics.proofs.Choice.{by}
 use Rattle.line.specs.Wire.{hearOf, keepOf}
+use Rattle.line.proofs.Receiving.{feed-long}
 use Rattle.motion.specs.Events.{Turn}
 use Rattle.motion.proofs.Keeps.{fresh-ok}
 use Rattle.machine.specs.declared.step.Core.{Core}
@@ -18,6 +19,7 @@ use Rattle.machine.specs.Buffer.{codeOf, storedBy}
 use Rattle.machine.specs.Device.{freshOf, tickOf, haltedOf, advanceOf, ranOf}
 use Rattle.machine.specs.Valid as Core
 use Rattle.machine.proofs.Keeps.{step-keeps}
+use Rattle.machine.proofs.Leaping.{ticks-keep}
 use Rattle.machine.proofs.KeepsActs.{room, acted-keeps, stop-keeps, length-laid-by}
 use Rattle.pipettor.specs.declared.address.Address.{Address}
 use Rattle.pipettor.specs.declared.acting.Task.{Task}
@@ -27,6 +29,7 @@ use Rattle.pipettor.specs.Address.{letterOf}
 use Rattle.pipettor.specs.Valid.{Valid}
 use Rattle.pipettor.specs.Byte.{After, gotOf, squeezedOf, taskOf, sizeOf, taskCode, taskDone, taskText, heardOf, byteOf}
 use Rattle.pipettor.specs.Controller.{on, madeOf, tickedOf, stoppedOf, advancedOf, runOf}
+use Rattle.pipettor.specs.Listening.{beforeCr, at, listenedOf}
 use Rattle.pipettor.proofs.Bytes.{kept-length, squeezed-length, got-size}
 use Rattle.pipettor.proofs.Errors.{step-low, stop-low, task-error}
 
@@ -42,11 +45,6 @@ made-is-valid a = record { core = record { body = fresh-ok; course = record { le
 
 -- so many ticks
 module _ (text : List ℕ) where
-  ticks-keep : (n : ℕ) (c : Core) → Core.Valid c → Core.Valid (ticksOf n text c)
-  unfolding ticksOf
-  ticks-keep zero c ok = ok
-  ticks-keep (suc n) c ok = ticks-keep n (stepOf text c .next) (step-keeps c ok text)
-
   ticks-low : (n : ℕ) (c : Core) → c .course .error ≤ 15 → ticksOf n text c .course .error ≤ 15
   unfolding ticksOf
   ticks-low zero c low = low
@@ -67,7 +65,7 @@ module _ (k : Controller) (v : Valid k) where
   unfolding advancedOf advanceOf
   advance-keeps n =
       let c = k .device .core in
-      record { core = ticks-keep (k .device .text) n c (v .core); error = ticks-low (k .device .text) n c (v .error) }
+      record { core = ticks-keep n (k .device .text) c (v .core); error = ticks-low (k .device .text) n c (v .error) }
 
   pub run-keeps : (n : ℕ) → Valid (runOf n k .controller)
   unfolding runOf ranOf advancedOf
@@ -124,3 +122,13 @@ module _ (k : Controller) (b : ℕ) (buf : List ℕ) where
         frame = squeezed-length (letterOf (k .address)) deed frame ∙ kept-length (k .frame) deed b ∙ s .frame;
         text = length-task _ _ _ _ (k .device .text) ∙ s .text;
       })
+
+-- bytes before a CR
+module _ (k : Controller) (bytes : List ℕ) where
+  pub listen-keeps : Valid k → Valid (listenedOf k bytes .controller)
+  unfolding listenedOf
+  listen-keeps v = record { core = v .core; error = v .error }
+
+  pub listen-keeps-sizes : Sized k → Sized (listenedOf k bytes .controller)
+  unfolding listenedOf
+  listen-keeps-sizes s = record { frame = feed-long (at (k .line) (k .frame)) (beforeCr bytes) ∙ s .frame; text = s .text }

@@ -5,3 +5,5 @@ pub mod Controllers
 pub mod Bytes
 pub mod Errors
 pub mod Keeps
+pub mod Listening
+pub mod Keeping

@@ -3,3 +3,5 @@ pub mod Reports
 pub mod Byte
 pub mod Controller
 pub mod Valid
+pub mod Listening
+pub mod Held

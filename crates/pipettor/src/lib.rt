@@ -1,7 +1,7 @@
 // The controller of one pipettor: bytes in, answers out, ticks between them.
-pub mod acting;
+mod acting;
 pub mod address;
-pub mod reports;
+mod reports;
 
 use address::Address;
 use line::Line;
@@ -11,6 +11,7 @@ ghost use mathlib.Core.Path.{_≡_};
 ghost use Rattle.pipettor.specs.Valid.{Valid};
 ghost use Rattle.pipettor.specs.Byte.{after, byteOf};
 ghost use Rattle.pipettor.specs.Controller.{madeOf, tickedOf, stoppedOf, advancedOf, runOf};
+ghost use Rattle.pipettor.specs.Listening.{UpToCr, listenedOf};
 
 // The receiver's line and the frame in hand; the buffer, its text and the plunger.
 pub struct Controller {
@@ -32,9 +33,41 @@ pub struct Reply {
     pub said: Said,
 }
 
+// A controller that has taken so many bytes.
+pub struct Listened {
+    pub controller: Controller,
+    pub n: usize,
+}
+
 pub struct Ran {
     pub controller: Controller,
     pub used: Used,
+}
+
+// A line that has taken so many bytes.
+struct Taken {
+    line: Line,
+    n: usize,
+}
+
+// The line and the frame in hand after the bytes before a CR.
+fn receive(start: Line, frame: &mut [u8; 320], bytes: &[u8]) -> Taken
+    ensures { λ r. ⌜ UpToCr start (now (frame .entry)) (now (bytes .entry)) r (now (frame .exit)) ⌝ }
+{
+    let mut line = start;
+    let mut n = 0;
+    while n < bytes.len() {
+        let b = bytes[n];
+        if b == 13 {
+            return Taken { line, n };
+        }
+        let heard = line.hear(b);
+        let deed = heard.deed;
+        line::keep(frame, deed, b);
+        line = heard.line;
+        n += 1;
+    }
+    Taken { line, n }
 }
 
 impl Controller {
@@ -90,6 +123,28 @@ impl Controller {
                 device: Device { text, core: done },
             },
             said,
+        }
+    }
+
+    // Bytes up to a CR, which is left: none of them completes a frame, and nothing is answered.
+    pub fn listen(self, bytes: &[u8]) -> Listened
+        ensures { λ r. ⌜ r ≡ listenedOf self (now (bytes .entry)) ⌝ }
+    {
+        let address = self.address;
+        let line = self.line;
+        let mut frame = self.frame;
+        let device = self.device;
+        let taken = receive(line, &mut frame, bytes);
+        let next = taken.line;
+        let n = taken.n;
+        Listened {
+            controller: Controller {
+                address,
+                line: next,
+                frame,
+                device,
+            },
+            n,
         }
     }
 

@@ -5,10 +5,7 @@ use text::Data;
 use text::Question;
 use text::loops;
 ghost use mathlib.Core.Path.{_≡_};
-ghost use Prim.Native.Nat.{_≤_};
-ghost use lib.ListN.{length};
 ghost use Rattle.text.specs.Data.{receivedOf};
-ghost use Rattle.text_run.specs.Lines.{LineEnd};
 
 fn say(what: &[u8]) {
     io::write_all(1, what);
@@ -109,25 +106,10 @@ fn line(t: &mut [u8]) {
     say(b"\n");
 }
 
-// Where the line ends that begins at `from`: at its LF, or with the text.
-fn line_end(t: &[u8], from: usize) -> usize
-    requires { ⌜ from ≤ length (now t) ⌝ }
-    ensures { λ r. ⌜ LineEnd (now (t .entry)) from r ⌝ }
-{
-    let mut i = from;
-    while i < t.len() {
-        if t[i] == b'\n' {
-            return i;
-        }
-        i += 1;
-    }
-    i
-}
-
 fn lines(t: &mut [u8]) {
     let mut from = 0;
     while from < t.len() {
-        let end = line_end(t, from);
+        let end = desk::line_end(t, from);
         line(&mut t[from..end]);
         from = end + 1;
     }

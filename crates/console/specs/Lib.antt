@@ -1,0 +1,2 @@
+pub mod Eaten
+pub mod Forms

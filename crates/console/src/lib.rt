@@ -1,0 +1,217 @@
+// The bench program: lines in, lines out, as soon as each is complete. Only reading and writing stay outside what is proved.
+use desk::Asked;
+use pipettor::Controller;
+use pipettor::Said;
+use pipettor::address::Address;
+ghost use Prim.Native.Nat.{_≤_};
+ghost use lib.ListN.{length};
+ghost use Rattle.pipettor.specs.Held.{Held};
+ghost use Rattle.console.specs.Eaten.{Fed, Rest};
+
+// A controller, and how many bytes are kept of the line that isn't complete yet.
+pub struct Eaten {
+    pub controller: Controller,
+    pub n: usize,
+}
+
+// The same after a chunk of the input, and whether the input is over.
+pub struct Round {
+    pub controller: Controller,
+    pub n: usize,
+    pub over: bool,
+}
+
+// Status and data, or `-` if silent. The buffer lent is long enough: S1 doesn't come.
+fn print(said: Said, answer: &[u8]) {
+    match said {
+        Said::Silent => {
+            io::write_all(1, b"-\n");
+        }
+        Said::Answer(n) => {
+            io::write_all(1, desk::printed(n, answer));
+            io::write_all(1, b"\n");
+        }
+        Said::S1 => {}
+    }
+}
+
+// `/` and the text: no frame ends here, and nothing is answered.
+fn feed(c: Controller, text: &[u8]) -> Controller
+    requires { ⌜ Held c ⌝ }
+    ensures { λ r. ⌜ Held r ⌝ }
+{
+    let started = c.listen(b"/");
+    let begun = started.controller;
+    let fed = begun.listen(text);
+    fed.controller
+}
+
+// The CR, and what is answered.
+fn ask(c: Controller) -> Controller
+    requires { ⌜ Held c ⌝ }
+    ensures { λ r. ⌜ Held r ⌝ }
+{
+    let mut buf = [0u8; 32];
+    let last = c.byte(13, &mut buf);
+    let said = last.said;
+    print(said, &buf);
+    last.controller
+}
+
+// "sends `/`, the text, CR"
+fn send(c: Controller, text: &[u8]) -> Controller
+    requires { ⌜ Held c ⌝ }
+    ensures { λ r. ⌜ Held r ⌝ }
+{
+    let fed = feed(c, text);
+    ask(fed)
+}
+
+// "for ticks, the plunger, a space, the exact position"
+fn place(plunger: u32, exact: u64) {
+    io::print_decimal(1, plunger as u64);
+    io::write_all(1, b" ");
+    io::print_decimal(1, exact);
+    io::write_all(1, b"\n");
+}
+
+fn wait(c: Controller, n: u32) -> Controller
+    requires { ⌜ Held c ⌝ }
+    ensures { λ r. ⌜ Held r ⌝ }
+{
+    let later = c.advance(n);
+    let device = later.device;
+    let core = device.core;
+    let body = core.body;
+    place(body.plunger, body.exact);
+    later
+}
+
+// A complete line.
+fn answer(c: Controller, line: &[u8]) -> Controller
+    requires { ⌜ Held c ⌝ }
+    ensures { λ r. ⌜ Held r ⌝ }
+{
+    let asked = desk::read(line);
+    match asked {
+        Asked::Send => {
+            if line.len() < 2 {
+                return c;
+            }
+            send(c, &line[2..])
+        }
+        Asked::Ticks(n) => wait(c, n),
+        Asked::Wrong => {
+            io::write_all(1, b"?\n");
+            c
+        }
+    }
+}
+
+// Bytes are kept behind those of a line kept before, as far as its array goes: 401 tell a line that is too long.
+fn collect(line: &mut [u8], kept: usize, bytes: &[u8]) -> usize
+    requires { ⌜ kept ≤ length (now line) ⌝ }
+    ensures { λ r. ⌜ Fed r (now (line .entry)) (now (line .exit)) ⌝ }
+{
+    let mut n = kept;
+    let mut i = 0;
+    while i < bytes.len() {
+        if n < line.len() {
+            line[n] = bytes[i];
+            n += 1;
+            i += 1;
+        } else {
+            return n;
+        }
+    }
+    n
+}
+
+fn gather(line: &mut [u8], kept: usize, chunk: &[u8], start: usize, end: usize) -> usize
+    requires { ⌜ kept ≤ length (now line) ⌝ }
+    requires { ⌜ start ≤ end ⌝ }
+    requires { ⌜ end ≤ length (now chunk) ⌝ }
+    ensures { λ r. ⌜ Fed r (now (line .entry)) (now (line .exit)) ⌝ }
+{
+    collect(line, kept, &chunk[start..end])
+}
+
+// A line that has ended is answered, and nothing of it is kept.
+fn finish(c: Controller, line: &[u8], n: usize, ended: bool) -> Eaten
+    requires { ⌜ Held c ⌝ }
+    requires { ⌜ n ≤ length (now line) ⌝ }
+    ensures { λ r. ⌜ Rest (r .controller) (r .n) (now (line .entry)) (now (line .entry)) ⌝ }
+{
+    if ended {
+        let later = answer(c, &line[..n]);
+        return Eaten {
+            controller: later,
+            n: 0,
+        };
+    }
+    Eaten { controller: c, n }
+}
+
+// A chunk of the input, line by line.
+fn eat(start: Controller, line: &mut [u8], kept: usize, chunk: &[u8]) -> Eaten
+    requires { ⌜ Held start ⌝ }
+    requires { ⌜ kept ≤ length (now line) ⌝ }
+    ensures { λ r. ⌜ Rest (r .controller) (r .n) (now (line .entry)) (now (line .exit)) ⌝ }
+{
+    let mut c = start;
+    let mut n = kept;
+    let mut from = 0;
+    while from < chunk.len() {
+        let end = desk::line_end(chunk, from);
+        let m = gather(line, n, chunk, from, end);
+        let e = finish(c, line, m, end < chunk.len());
+        c = e.controller;
+        n = e.n;
+        from = end + 1;
+    }
+    Eaten { controller: c, n }
+}
+
+// The next chunk of the input; none is its end.
+fn read_chunk(c: Controller, line: &mut [u8], kept: usize) -> Round
+    requires { ⌜ Held c ⌝ }
+    requires { ⌜ kept ≤ length (now line) ⌝ }
+    ensures { λ r. ⌜ Rest (r .controller) (r .n) (now (line .entry)) (now (line .exit)) ⌝ }
+{
+    let mut chunk = [0u8; 4096];
+    let got = libc::read(0, &mut chunk);
+    if got <= 0 {
+        return Round {
+            controller: c,
+            n: kept,
+            over: true,
+        };
+    }
+    let m = io::count(got, &chunk);
+    let e = eat(c, line, kept, &chunk[..m]);
+    let later = e.controller;
+    let n = e.n;
+    Round {
+        controller: later,
+        n,
+        over: false,
+    }
+}
+
+// "It reads lines, ended by LF or the input's end (nothing after the last LF is no line), from standard input. .. Address 1."
+pub fn serve() {
+    let mut c = Controller::fresh(Address::One);
+    let mut line = [0u8; 401];
+    let mut n = 0;
+    let mut turns = u64::MAX;
+    while turns > 0 {
+        let r = read_chunk(c, &mut line, n);
+        c = r.controller;
+        n = r.n;
+        if r.over {
+            finish(c, &line, n, 0 < n);
+            return;
+        }
+        turns -= 1;
+    }
+}

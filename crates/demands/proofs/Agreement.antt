@@ -1,0 +1,80 @@
+-- The second demand of `specs/Demands`, proved: contracts that are met, with `Valid` kept on the way, make agreement over any calls; and so every program that meets them plays every script as the definition does.
+use mathlib.Core.Path.{_≡_, refl, ap, subst, _∙_}
+use mathlib.Core.List.{List, [], _∷_, _++_}
+use Rattle.pipettor.specs.declared.address.Address.{Address}
+use Rattle.pipettor.specs.declared.address.Address.the-variants.{One}
+use Rattle.pipettor.specs.declared.Controller.{Controller}
+use Rattle.pipettor.specs.Valid.{Valid}
+use Rattle.pipettor.specs.Byte.{After}
+use Rattle.pipettor.specs.Controller.{madeOf}
+use Rattle.pipettor.proofs.Keeps.{Sized, made-is-valid}
+use Rattle.demands.specs.Calls.{Call, byte, listen, tick, stop, advance, run, said, callOf, answerOf, afterOf, answersOf, after, answers}
+use Rattle.demands.specs.Contracts.{Program, Made, makes, Meets, TakesAll, leftBy, answeredBy}
+use Rattle.demands.specs.Frames.{frameAfter}
+use Rattle.demands.specs.Demands.{Agrees, Agreement}
+use Rattle.demands.specs.Script.{Line, _answers_, _ticks_exact_, _run-uses_, lastOf, definition, program, callsOf, seen, wrongIn, wrongOf, TakesScript, TakesScripts}
+use Rattle.demands.proofs.Examples.{impostors, computed}
+use Rattle.demands.proofs.Frames.{a-controller-hears}
+use Rattle.demands.proofs.Exchanges.{an-agreeing-program-exchanges}
+use Rattle.demands.proofs.Sound.{call-keeps-valid, call-keeps-sized, made-is-sized, every-controller-is-sound}
+
+module _ (p : Program) (m : Meets p) where
+  call-agrees : (c : Call) (k : Controller) → p .Holds k → p .Takes c → Valid k → makes p c k ≡ record { controller = callOf c k .next; answer = answerOf c k }
+  unfolding makes callOf answerOf
+  call-agrees (byte b buf) k h t v =
+      ap (λ (r : After). record { controller = r .reply .controller; answer = said (r .reply .said) (r .buffer) }) (m .byte k b buf h t v)
+  call-agrees (listen bytes) k h t v = rw (m .listen k bytes h t)
+  call-agrees tick k h t v = rw (m .tick k h t v)
+  call-agrees stop k h t v = rw (m .stop k h t)
+  call-agrees (advance n) k h t v = rw (m .advance k n h t v)
+  call-agrees (run n) k h t v = rw (m .run k n h t v)
+
+  calls-agree : (cs : List Call) (k : Controller) → p .Holds k → TakesAll p cs → Sized k → Valid k → (leftBy p cs k ≡ afterOf cs k) × (answeredBy p cs k ≡ answersOf cs k)
+  unfolding leftBy answeredBy afterOf answersOf
+  calls-agree [] k h t s v = (refl, refl)
+  calls-agree (c ∷ cs) k h t s v =
+      let e = call-agrees c k h (t .0) v in
+      let same : makes p c k .controller ≡ callOf c k .next = ap (λ (r : Made). r .controller) e in
+      let (left, back) = calls-agree cs (callOf c k .next) (subst (p .Holds) same (m .held c k h (t .0) v)) (t .1) (call-keeps-sized c k s) (call-keeps-valid c k s v) in
+      (rw same left, rw e (ap (_∷_ (answerOf c k)) back))
+
+every-program-agrees : (p : Program) → Meets p → (a : Address) (calls : List Call) → TakesAll p calls → Agrees p a calls
+unfolding after answers
+every-program-agrees p m a calls takes =
+    let k = madeOf a .next in
+    let made = m .fresh a in
+    let (left, back) = calls-agree p m calls k (subst (p .Holds) made (m .fresh-held a)) takes (made-is-sized a) (made-is-valid a) in
+    record { premise = rw (made, left) (every-controller-is-sound a calls .valid); controller = rw made left; answered = rw made back }
+
+pub every-program-that-meets-the-contracts-agrees : Agreement
+every-program-that-meets-the-contracts-agrees =
+    record {
+      every-program-agrees = every-program-agrees;
+      frames = λ a calls buf long. a-controller-hears (after a calls) (every-controller-is-sound a calls .sized .frame) buf long;
+      every-program-exchanges-frames = λ p m a calls ds buf good long takes. an-agreeing-program-exchanges a calls ds buf good long p (every-program-agrees p m a (calls ++ frameAfter a calls ds buf) takes);
+    }
+
+-- scripts
+module _ (p : Program) (m : Meets p) where
+  seen-alike : (calls : List Call) (l : Line) → TakesAll p (calls ++ callsOf l) → seen (program p) calls l ≡ seen definition calls l
+  unfolding seen
+  seen-alike calls (text answers reply) t = ap lastOf (every-program-agrees p m One (calls ++ callsOf (text answers reply)) t .answered)
+  seen-alike calls (n ticks place exact millionths) t =
+      ap (λ (k : Controller). k .device .core .body .plunger ∷ k .device .core .body .exact ∷ [])
+      (every-program-agrees p m One (calls ++ advance n ∷ []) t .controller)
+  seen-alike calls (n run-uses count) t = ap lastOf (every-program-agrees p m One (calls ++ run n ∷ []) t .answered)
+
+  wrong-alike : (calls : List Call) (ls : List Line) → TakesScript p calls ls → wrongIn (program p) calls ls ≡ wrongIn definition calls ls
+  unfolding wrongIn
+  wrong-alike calls [] t = refl
+  wrong-alike calls (l ∷ ls) t = rw (seen-alike calls l (t .0), wrong-alike (calls ++ callsOf l) ls (t .1))
+
+  pub every-program-that-meets-the-contracts-plays-alike : (scripts : List (List Line)) → TakesScripts p scripts → wrongOf (program p) scripts ≡ wrongOf definition scripts
+  unfolding wrongOf
+  every-program-that-meets-the-contracts-plays-alike [] t = refl
+  every-program-that-meets-the-contracts-plays-alike (script ∷ scripts) t =
+      rw (wrong-alike [] script (t .0), every-program-that-meets-the-contracts-plays-alike scripts (t .1))
+
+  -- "These must be shut out": no program that meets the contracts is one of the five
+  pub the-impostors-are-shut-out : TakesScripts p impostors → wrongOf (program p) impostors ≡ []
+  the-impostors-are-shut-out t = every-program-that-meets-the-contracts-plays-alike impostors t ∙ computed .what-no-impostor-plays

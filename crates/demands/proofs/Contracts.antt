@@ -1,0 +1,86 @@
+-- `specs/Contracts` says what the contracts say: each is the one that the compiler reads from `pipettor/src/lib.rt`, of a method's arguments, its result and what is left of what was lent.
+use mathlib.Core.Path.{_≡_, refl}
+use mathlib.Core.List.{List}
+use Prim.Native.Nat.{ℕ}
+use contract.Lifetimes.{Lfts}
+use denote.Ref.{RefT, now}
+use Rattle.pipettor.specs.declared.address.Address.{Address}
+use Rattle.pipettor.specs.declared.Controller.{Controller}
+use Rattle.pipettor.specs.declared.Reply.{Reply}
+use Rattle.pipettor.specs.declared.Listened.{Listened}
+use Rattle.pipettor.specs.declared.Ran.{Ran}
+use Rattle.pipettor.specs.Valid.{Valid}
+use Rattle.pipettor.proofs.Controller.fresh.Reads as Fresh
+use Rattle.pipettor.proofs.Controller.byte.Reads as Byte
+use Rattle.pipettor.proofs.Controller.listen.Reads as Listen
+use Rattle.pipettor.proofs.Controller.tick.Reads as Tick
+use Rattle.pipettor.proofs.Controller.stop.Reads as Stop
+use Rattle.pipettor.proofs.Controller.advance.Reads as Advance
+use Rattle.pipettor.proofs.Controller.run.Reads as Run
+use Rattle.pipettor.specs.Byte.{byteOf}
+use Rattle.pipettor.specs.Listening.{listenedOf}
+use Rattle.pipettor.specs.Controller.{madeOf, tickedOf, stoppedOf, advancedOf, runOf}
+use Rattle.demands.specs.Contracts.{Program, Meets, FreshEnsures, ByteEnsures, ListenEnsures, TickEnsures, StopEnsures, AdvanceEnsures, RunEnsures}
+
+-- a contract's two parts: what it asks, and what it ensures
+pub record Says (asked asks ensured ensures : Type 0) : Type 1 where
+  pub asked-is : asked ≡ asks
+  pub ensured-is : ensured ≡ ensures
+
+module _ (κs : Lfts 0) where
+  pub fresh-says : (a : Address) (r : Controller) → Says (Fresh.Asked κs (a, tt)) (Unit {0}) (Fresh.Learnt κs (a, tt) r (a, tt)) (FreshEnsures a r)
+  fresh-says a r = record { asked-is = refl; ensured-is = refl }
+
+  module _ (k : Controller) where
+    pub tick-says : (r : Controller) → Says (Tick.Asked κs (k, tt)) (Valid k) (Tick.Learnt κs (k, tt) r (k, tt)) (TickEnsures k r)
+    tick-says r = record { asked-is = refl; ensured-is = refl }
+
+    pub stop-says : (r : Controller) → Says (Stop.Asked κs (k, tt)) (Unit {0}) (Stop.Learnt κs (k, tt) r (k, tt)) (StopEnsures k r)
+    stop-says r = record { asked-is = refl; ensured-is = refl }
+
+    pub advance-says : (n : ℕ) (r : Controller) → Says (Advance.Asked κs (k, (n, tt))) (Valid k) (Advance.Learnt κs (k, (n, tt)) r (k, (n, tt))) (AdvanceEnsures k n r)
+    advance-says n r = record { asked-is = refl; ensured-is = refl }
+
+    pub run-says : (n : ℕ) (r : Ran) → Says (Run.Asked κs (k, (n, tt))) (Valid k) (Run.Learnt κs (k, (n, tt)) r (k, (n, tt))) (RunEnsures k n r)
+    run-says n r = record { asked-is = refl; ensured-is = refl }
+
+-- the buffer as it was lent, and as it is left
+pub byte-says :
+    (κs : Lfts 1) (k : Controller) (b : ℕ) (lent left : RefT (List ℕ)) (r : Reply) →
+    Says (Byte.Asked κs (k, (b, (lent, tt)))) (Valid k) (Byte.Learnt κs (k, (b, (lent, tt))) r (k, (b, (left, tt)))) (ByteEnsures k b (now lent) r (now left))
+byte-says κs k b lent left r = record { asked-is = refl; ensured-is = refl }
+
+-- the bytes as they are lent
+pub listen-says :
+    (κs : Lfts 1) (k : Controller) (lent left : RefT (List ℕ)) (r : Listened) →
+    Says (Listen.Asked κs (k, (lent, tt))) (Unit {0}) (Listen.Learnt κs (k, (lent, tt)) r (k, (left, tt))) (ListenEnsures k (now lent) r)
+listen-says κs k lent left r = record { asked-is = refl; ensured-is = refl }
+
+-- the contracts can be met: the definition does
+abbrev defined : Program
+defined =
+    record {
+      Holds = λ k. Unit {0};
+      Takes = λ c. Unit {0};
+      fresh = λ a. madeOf a .next;
+      byte = λ k b buf. byteOf k b buf .next;
+      listen = listenedOf;
+      tick = λ k. tickedOf k .next;
+      stop = λ k. stoppedOf k .next;
+      advance = λ k n. advancedOf n k;
+      run = λ k n. runOf n k;
+    }
+
+pub the-contracts-can-be-met : Meets defined
+the-contracts-can-be-met =
+    record {
+      fresh = λ a. refl;
+      byte = λ k b buf h t v. refl;
+      listen = λ k bytes h t. refl;
+      tick = λ k h t v. refl;
+      stop = λ k h t. refl;
+      advance = λ k n h t v. refl;
+      run = λ k n h t v. refl;
+      fresh-held = λ a. tt;
+      held = λ c k h t v. tt;
+    }

@@ -1,0 +1,197 @@
+-- Every call on a controller is, on its device, nothing, a new last error, a call of the machine, or so many ticks; and a string that comes with a call reads.
+use mathlib.Core.Path.{_≡_, refl, sym}
+use mathlib.Core.Bool.{Bool, true, false}
+use mathlib.Core.List.{List, [], _∷_}
+use Prim.Native.Nat.{ℕ, zero, suc, _+_, _≤_, _<_}
+use native.Mathlib.Omega.{arith}
+use borrow.Author.Tests.{eqb-true}
+use lib.Dec.{ltb, eqb}
+use lib.ListN.{length, take, drop}
+use lib.Seq.{length-take-le, take-append-le}
+use Rattle.basics.specs.Choice.{if_then_else_}
+use Rattle.basics.specs.Lay.{over}
+use Rattle.basics.proofs.Choice.{by}
+use Rattle.command.specs.Command.{refusalNumber}
+use Rattle.text.specs.declared.Data.{Data}
+use Rattle.text.specs.declared.Data.the-variants as D
+use Rattle.text.specs.declared.Control.{Control}
+use Rattle.text.specs.declared.Control.the-variants.{Run, Stop, Again, Clear, Reset}
+use Rattle.text.specs.declared.Checked.the-variants.{Fine}
+use Rattle.text.specs.Text.{Step, Reading, reads, wrong, readOf, verdict, checkOf}
+use Rattle.text.specs.Data.{spaceless, body, controlOf, dataOf}
+use Rattle.text.proofs.Strings.{a-text-stands-in-front}
+use Rattle.line.specs.declared.Deed.{Deed}
+use Rattle.line.specs.declared.Deed.the-variants as W
+use Rattle.line.specs.Wire.{hearOf, keepOf}
+use Rattle.motion.specs.Events.{Turn, quiet}
+use Rattle.machine.specs.declared.step.Core.{Core}
+use Rattle.machine.specs.declared.buffer.Action.{Action}
+use Rattle.machine.specs.declared.buffer.Order.the-variants as O
+use Rattle.machine.specs.declared.Device.{Device}
+use Rattle.machine.specs.declared.Ran.{Ran}
+use Rattle.machine.specs.Run.{usedOf}
+use Rattle.machine.specs.Buffer.{orderOf, codeOf, laidBy, storedBy, coreError, doneOf, actedOf, actOf, textOf}
+use Rattle.machine.specs.Device.{device, advanceOf, ranOf}
+use Rattle.machine.specs.History as Machine
+use Rattle.machine.specs.OnCourse.{Loaded, SentBy}
+use Rattle.pipettor.specs.declared.acting.Got.{Got}
+use Rattle.pipettor.specs.declared.acting.Got.the-variants as G
+use Rattle.pipettor.specs.declared.Controller.{Controller}
+use Rattle.pipettor.specs.Address.{letterOf}
+use Rattle.pipettor.specs.Byte.{After, fetchedOf, squeezedIn, gotOf, squeezedOf, actionOf, stringAction, taskOf, sizeOf, taskCode, taskDone, taskText, heardOf, byteOf}
+use Rattle.pipettor.specs.Listening.{listenedOf}
+use Rattle.pipettor.specs.Controller.{tickedOf, stoppedOf, advancedOf, runOf}
+use Rattle.demands.specs.Calls as Calls
+use Rattle.demands.specs.Calls.{Call, ticksEvents, ticksUsed, callOf}
+
+-- what a call does to a device
+pub data Does (d : Device) : Turn Device → Type 0 where
+  none : Does d (quiet d)
+  new-error : (code : ℕ) → Does d (quiet (device (d .text) (coreError code (d .core))))
+  call : (k : Machine.Call) → SentBy k → Does d (Machine.callOf k d)
+  ticks : (n : ℕ) → Does d (record { next = advanceOf n d; events = ticksEvents n d })
+
+-- a text that stands in front of data reads, and isn't empty
+reading-of : (t : List ℕ) (r : Reading) → readOf t ≡ r → verdict r ≡ Fine → (steps : List Step) × (readOf t ≡ reads steps)
+reading-of t (reads steps) e v = (steps, e)
+reading-of t (wrong r) e v = let z : _≡_ {A = ℕ} 0 1 = cc in absurd (omega arith)
+
+module _ (n : ℕ) (run : Bool) where
+  never-R : dataOf (82 ∷ []) ≡ D.Text n run → ⊥
+  unfolding dataOf controlOf
+  never-R e = let z : _≡_ {A = ℕ} 0 1 = cc in omega arith
+
+  some-body : (t : List ℕ) → dataOf t ≡ D.Text n run → body t ≡ [] → ⊥
+  unfolding body dataOf
+  some-body [] e = λ q. let z : _≡_ {A = ℕ} 0 1 = cc in omega arith
+  some-body (b ∷ []) e =
+      by (λ (x : List ℕ). x ≡ [] → ⊥) (eqb b 82)
+      (λ h q. never-R (rw (eqb-true b 82 h) at e))
+      (λ h q. let z : _≡_ {A = ℕ} 0 1 = cc in omega arith)
+  some-body (b ∷ c ∷ t) e = λ q. let z : _≡_ {A = ℕ} 0 1 = cc in omega arith
+
+  some-text : (t : List ℕ) → dataOf t ≡ D.Text n run → (m : ℕ) → n ≡ m → 0 < m
+  some-text t e zero p = absurd (some-body t e (sym (rw p at (a-text-stands-in-front n run t e .front))))
+  some-text t e (suc m) p = omega arith
+
+  a-text-in-front-is-loaded : (t : List ℕ) → dataOf t ≡ D.Text n run → Loaded (take n t)
+  unfolding checkOf
+  a-text-in-front-is-loaded t e =
+      let w = a-text-stands-in-front n run t e in
+      let (steps, reading) = reading-of (take n t) (readOf (take n t)) refl (w .good) in
+      record { steps = steps; reading = reading; some = rw (length-take-le n t (w .short)) (some-text t e n refl) }
+
+-- what stands in front of squeezed data
+front-of-squeezed : (n : ℕ) (t frame : List ℕ) → n ≤ length t → take n (over t 0 frame) ≡ take n t
+unfolding over
+front-of-squeezed n t frame h = take-append-le n t (drop (0 + length t) frame) h
+
+abbrev Brings : Got → List ℕ → Type 0
+Brings G.Nothing added = Unit {0}
+Brings (G.Data (D.Report q)) added = Unit {0}
+Brings (G.Data D.WrongReport) added = Unit {0}
+Brings (G.Data (D.Control c)) added = added ≡ []
+Brings (G.Data (D.Text n run)) added = Loaded added × (length added ≡ n)
+Brings (G.Data (D.Wrong r)) added = Unit {0}
+Brings (G.Data D.TooLong) added = Unit {0}
+
+data-brings : (t frame : List ℕ) (d : Data) → dataOf t ≡ d → Brings (G.Data d) (take (sizeOf (G.Data d)) (over t 0 frame))
+data-brings t frame (D.Report q) e = tt
+data-brings t frame D.WrongReport e = tt
+data-brings t frame (D.Control c) e = refl
+data-brings t frame (D.Text n run) e =
+    let w = a-text-stands-in-front n run t e in
+    rw (front-of-squeezed n t frame (w .short)) (a-text-in-front-is-loaded n run t e, length-take-le n t (w .short))
+data-brings t frame (D.Wrong r) e = tt
+data-brings t frame D.TooLong e = tt
+
+got-brings : (ours : ℕ) (deed : Deed) (frame : List ℕ) → (let g = gotOf ours deed frame in Brings g (take (sizeOf g) (squeezedOf ours deed frame)))
+unfolding gotOf squeezedOf fetchedOf squeezedIn
+got-brings ours W.Nothing frame = tt
+got-brings ours (W.Keep at) frame = tt
+got-brings ours (W.Frame a n) frame = go (eqb a ours) (ltb 320 n)
+  where
+    t : List ℕ
+    t = spaceless (take n frame)
+
+    go :
+        (x y : Bool) →
+        (let g = if x then (if y then G.Data D.TooLong else G.Data (dataOf t)) else G.Nothing in
+        Brings g (take (sizeOf g) (if x then (if y then frame else over t 0 frame) else frame)))
+    go true true = tt
+    go true false = data-brings t frame (dataOf t) refl
+    go false y = tt
+
+-- what a frame does to a device, by what it brings
+module _ (d : Device) where
+  abbrev outcome : Got → List ℕ → Turn Device
+  outcome g added =
+      let c = d .core in
+      let task = taskOf g (c .course .state) in
+      let code = taskCode task (take (c .course .len) (d .text)) added in
+      let turn = taskDone task code (sizeOf g) c in
+      record { next = device (taskText task code (c .course .len) added (d .text)) (turn .next); events = turn .events }
+
+  refuses : (code n : ℕ) (added : List ℕ) → (let o = O.Refuse code in let t = actedOf o code n (d .core) in Does d (record { next = device (storedBy o code (d .core .course .len) added (d .text)) (t .next); events = t .events }))
+  unfolding actedOf storedBy doneOf laidBy
+  refuses code n added = go (eqb code 0)
+    where
+      to : Bool → Turn Core
+      to x = if x then quiet (coreError 0 (d .core)) else quiet (coreError code (d .core))
+
+      go : (x : Bool) → Does d (record { next = device (if x then d .text else d .text) (to x .next); events = to x .events })
+      go true = new-error 0
+      go false = new-error code
+
+  acts : (a : Action) (added : List ℕ) (n : ℕ) → length added ≡ n → SentBy (Machine.act a added) →
+      (let c = d .core in
+      let o = orderOf a (c .course .state) in
+      let code = codeOf o (take (c .course .len) (d .text)) added in
+      let t = actedOf o code n c in
+      Does d (record { next = device (storedBy o code (c .course .len) added (d .text)) (t .next); events = t .events }))
+  unfolding Machine.callOf actOf textOf
+  acts a added n l sent = rw (← l) (call (Machine.act a added) sent)
+
+  control-sent : (c : Control) (added : List ℕ) → SentBy (Machine.act (actionOf c) added)
+  control-sent Run added = tt
+  control-sent Stop added = tt
+  control-sent Again added = tt
+  control-sent Clear added = tt
+  control-sent Reset added = tt
+
+  string-sent : (run : Bool) (added : List ℕ) → Loaded added → SentBy (Machine.act (stringAction run) added)
+  string-sent true added l = l
+  string-sent false added l = l
+
+  frame-does : (g : Got) (added : List ℕ) → Brings g added → Does d (outcome g added)
+  unfolding taskOf taskCode taskDone taskText codeOf
+  frame-does G.Nothing added b = none
+  frame-does (G.Data (D.Report q)) added b = none
+  frame-does (G.Data D.WrongReport) added b = none
+  frame-does (G.Data (D.Control c)) added b = acts (actionOf c) added 0 (rw b) (control-sent c added)
+  frame-does (G.Data (D.Text n run)) added b = acts (stringAction run) added n (b .1) (string-sent run added (b .0))
+  frame-does (G.Data (D.Wrong r)) added b = refuses (refusalNumber r) 0 added
+  frame-does (G.Data D.TooLong) added b = refuses 15 0 added
+
+-- every call
+abbrev onDevice : Turn Controller → Turn Device
+onDevice t = record { next = t .next .device; events = t .events }
+
+pub every-call-does : (c : Call) (k : Controller) → Does (k .device) (onDevice (callOf c k))
+unfolding callOf byteOf heardOf listenedOf tickedOf stoppedOf advancedOf runOf ranOf ticksEvents Machine.callOf Machine.eventsOf
+every-call-does (Calls.byte b buf) k =
+    let deed = hearOf (k .line) b .deed in
+    let frame = keepOf (k .frame) deed b in
+    let ours = letterOf (k .address) in
+    let g = gotOf ours deed frame in
+    by (λ (t : Turn After). Does (k .device) (record { next = t .next .reply .controller .device; events = t .events })) (ltb (length buf) 32)
+    (λ h. none)
+    (λ h. frame-does (k .device) g (take (sizeOf g) (squeezedOf ours deed frame)) (got-brings ours deed frame))
+every-call-does (Calls.listen bytes) k = none
+every-call-does Calls.tick k = call Machine.tick tt
+every-call-does Calls.stop k = call Machine.stop tt
+every-call-does (Calls.advance n) k = ticks n
+every-call-does (Calls.run n) k =
+    by (λ (r : Ran). Does (k .device) (record { next = r .device; events = ticksEvents (ticksUsed (r .used)) (k .device) })) (ltb 60000 n)
+    (λ h. none)
+    (λ h. ticks (usedOf n (k .device .text) (k .device .core)))

@@ -1,0 +1,102 @@
+-- Computed by the checker: 01's checked examples, those with ● and some more, the errors that a class makes, what no impostor plays, and calls that move the plunger. Every script is played from making, byte by byte and tick by tick.
+use mathlib.Core.Path.{_≡_, refl}
+use mathlib.Core.List.{List, [], _∷_, _++_}
+use borrow.Author.Tests.{leb-true}
+use Rattle.basics.specs.Bytes as BasicsBytes
+use Rattle.basics.specs.Lay as BasicsLay
+use Rattle.decimal.specs.Digits as DecimalDigits
+use Rattle.settings.specs.Limits as SettingsLimits
+use Rattle.settings.specs.Units as SettingsUnits
+use Rattle.operand.specs.Number as OperandNumber
+use Rattle.operand.specs.Text as OperandText
+use Rattle.command.specs.Command as Command
+use Rattle.command.specs.Table as CommandTable
+use Rattle.text.specs.Data as TextData
+use Rattle.text.specs.Loops as TextLoops
+use Rattle.text.specs.Text as Text
+use Rattle.line.specs.Answer as LineAnswer
+use Rattle.line.specs.Wire as LineWire
+use Rattle.motion.specs.Motion as Motion
+use Rattle.machine.specs.Buffer as MachineBuffer
+use Rattle.machine.specs.Course as MachineCourse
+use Rattle.machine.specs.Device as MachineDevice
+use Rattle.machine.specs.Run as MachineRun
+use Rattle.machine.specs.Step as MachineStep
+use Rattle.pipettor.specs.Byte as PipettorByte
+use Rattle.pipettor.specs.Controller as PipettorController
+use Rattle.pipettor.specs.Reports as PipettorReports
+use Rattle.machine.specs.History as History
+use Rattle.pipettor.specs.declared.address.Address.the-variants.{One}
+use Rattle.demands.specs.Calls as Calls
+use Rattle.demands.specs.Calls.{Call, advance, after}
+use Rattle.demands.specs.Demands.{Moves}
+use Rattle.demands.specs.Script.{Line, _answers_, _ticks_exact_, _run-uses_, definition, callsOf, seen, wrongIn, wrongOf}
+
+abbrev pub examples : List (List Line)
+examples =
+    -- ● "`A1000R`, fresh: busy 40h; one tick on, 67h."
+    ("A1000R" answers "@" ∷ 1 ticks 0 exact 0 ∷ "Q" answers "g" ∷ [])
+    -- "● `A44000` accepted, ● `A44001` 3, ● `A1100,1` accepted, `A1100.001,1` 3, `A100.0` 3, ● `A-1` 2."
+    ∷ ("A44000" answers "`" ∷ "A44001" answers "c" ∷ "A1100,1" answers "`" ∷ "A1100.001,1" answers "c" ∷ "A100.0" answers "c" ∷ "A-1" answers "b" ∷ [])
+    -- ● "After W and b350, `A1090.458,1` gives goal 44000; ● `A1090.459,1` is 3 in the run."
+    ∷ ("Wb350A1090.458,1R" answers "@" ∷ 3 ticks 0 exact 43999980300 ∷ "?0" answers "@44000" ∷ [])
+    ∷ ("Wb350A1090.459,1R" answers "@" ∷ 3 ticks 0 exact 0 ∷ "Q" answers "c" ∷ [])
+    -- ● "Five times `P0.01,1` after W: plunger 2."
+    ∷ ("WP0.01,1P0.01,1P0.01,1P0.01,1P0.01,1R" answers "@" ∷ 1 ticks 0 exact 0 ∷ 1 ticks 0 exact 400000 ∷ 10 ticks 2 exact 2000000 ∷ "Q" answers "`" ∷ [])
+    -- ● "V155.5: 1, 3, 4 increments after 1, 2, 3 ticks."
+    ∷ ("WV155.5A100R" answers "@" ∷ 3 ticks 0 exact 100000000 ∷ 1 ticks 1 exact 100000000 ∷ 1 ticks 3 exact 100000000 ∷ 1 ticks 4 exact 100000000 ∷ [])
+    -- "● `V2.5,1` is 100.0; `V2.503,1` reports 100.1 and 2.503."
+    ∷ ("V2.5,1R" answers "@" ∷ 1 ticks 0 exact 0 ∷ "?7" answers "`100.0" ∷ [])
+    ∷ ("V2.503,1R" answers "@" ∷ 1 ticks 0 exact 0 ∷ "?7" answers "`100.1" ∷ "?19" answers "`2.503" ∷ [])
+    -- "● M9 0, ● M14 10, ● M15 20": the tick that takes it, and 0, 1 or 2 more
+    ∷ ("M9R" answers "@" ∷ 1 ticks 0 exact 0 ∷ "Q" answers "`" ∷ [])
+    ∷ ("M14R" answers "@" ∷ 1 ticks 0 exact 0 ∷ "Q" answers "@" ∷ 1 ticks 0 exact 0 ∷ "Q" answers "`" ∷ [])
+    ∷ ("M15R" answers "@" ∷ 2 ticks 0 exact 0 ∷ "Q" answers "@" ∷ 1 ticks 0 exact 0 ∷ "Q" answers "`" ∷ [])
+    -- the whole case of the bench program
+    ∷ ("WR" answers "@" ∷ 1 ticks 0 exact 0 ∷ "P0.01,1P0.01,1R" answers "@" ∷ 4 ticks 1 exact 800000 ∷ "?0" answers "`1" ∷ [])
+    ∷ []
+
+-- 01, "Errors a class makes, and so may a program"
+abbrev pub mistakes : List (List Line)
+mistakes =
+    -- "Each volume rounded by itself: five times 10 nL gives 0."
+    ("WgP0.01,1G5R" answers "@" ∷ 20 ticks 2 exact 2000000 ∷ [])
+    -- "Defaults sent through the range check": 8000.0 increments a second is no flow of 2.500 to 2000.000
+    ∷ ("V,1R" answers "@" ∷ 1 ticks 0 exact 0 ∷ "?7" answers "`8000.0" ∷ [])
+    -- "A loop without movement run inside one tick."
+    ∷ ("gG3R" answers "@" ∷ 3 ticks 0 exact 0 ∷ "Q" answers "@" ∷ 1 ticks 0 exact 0 ∷ "Q" answers "`" ∷ [])
+    -- "T while delaying taken as a starting point, so the fraction is lost."
+    ∷ ("WP0.01,1M1000R" answers "@" ∷ 3 ticks 0 exact 400000 ∷ "T" answers "`" ∷ "P0.01,1R" answers "@" ∷ 2 ticks 1 exact 800000 ∷ [])
+    -- accepted taken for done: this method is accepted, and its run refused with 3 when the first move is done
+    ∷ ("WA10D20R" answers "@" ∷ 3 ticks 10 exact 10000000 ∷ "Q" answers "@" ∷ 1 ticks 10 exact 10000000 ∷ "Q" answers "c" ∷ [])
+    ∷ []
+
+-- 01: "These must be shut out"
+abbrev pub impostors : List (List Line)
+impostors =
+    -- "a controller refusing everything"
+    ("A44000" answers "`" ∷ [])
+    -- "one answering always 60h"
+    ∷ ("A1000R" answers "@" ∷ [])
+    -- "one whose ticks move nothing", "one that runs only a text's first command", "and a run reporting an invented tick count"
+    ∷ ("WA5A10R" answers "@" ∷ 3 ticks 5 exact 5000000 ∷ 100 run-uses 2 ∷ 1 ticks 10 exact 10000000 ∷ 100 run-uses 0 ∷ [])
+    ∷ []
+
+abbrev moved : List Call
+moved = callsOf ("WP0.01,1P0.01,1R" answers "@") ++ advance 4 ∷ []
+
+pub record Computed : Type 0 where
+  pub the-examples-hold : wrongOf definition examples ≡ []
+  pub no-mistake-is-made : wrongOf definition mistakes ≡ []
+  pub what-no-impostor-plays : wrongOf definition impostors ≡ []
+  pub the-plunger-moves : Moves
+
+-- opened: every definition on the way of a byte or a tick, so that rows can be added freely
+pub computed : Computed
+unfolding BasicsBytes.digit BasicsBytes.every BasicsBytes.valueOf BasicsLay.over BasicsLay.fits BasicsLay.laidIn DecimalDigits.lastDigits DecimalDigits.trim DecimalDigits.digitsOf DecimalDigits.fixedOf SettingsLimits.within SettingsUnits.nearest SettingsUnits.tenthsOf SettingsUnits.flowOf SettingsUnits.ticksOf SettingsUnits.rateOf SettingsUnits.millionthsOf SettingsUnits.goalOf SettingsUnits.nanolitresOf SettingsUnits.goneOf OperandNumber.digits OperandNumber.decimalsOf OperandNumber.followedOf OperandNumber.numberOf OperandNumber.behindComma OperandNumber.pairOf OperandText.run OperandText.rest Command.placed Command.foundIn Command.commandAt CommandTable.letterOf CommandTable.allowed CommandTable.takenOf CommandTable.wholeOf CommandTable.nanolitresOf CommandTable.speedOf CommandTable.inTenths CommandTable.flowOf CommandTable.made CommandTable.both CommandTable.inUnit CommandTable.volumeOf CommandTable.pacedOf CommandTable.slopesOf CommandTable.compensationOf CommandTable.commandOf TextData.spaceless TextData.askedOf TextData.body TextData.runs TextData.stringOf TextData.controlOf TextData.dataOf TextLoops.levelOf TextLoops.levels TextLoops.loopsOk Text.readFrom Text.readOf Text.checkOf LineAnswer.statusOf LineAnswer.reportOf LineAnswer.answerOf LineWire.printable LineWire.endOf LineWire.takeOf LineWire.hearOf LineWire.keepOf Motion.plungerOf Motion.homeOf Motion.within Motion.targetOf Motion.setOut Motion.aimed Motion.moveOf Motion.delayOf Motion.effectOf Motion.carried Motion.onwardOf Motion.cutOf Motion.resetOf Motion.freshBody MachineBuffer.orderOf MachineBuffer.sized MachineBuffer.codeOf MachineBuffer.halted MachineBuffer.haltOf MachineBuffer.stopOf MachineBuffer.doneOf MachineBuffer.laidBy MachineBuffer.storedBy MachineBuffer.actedOf MachineCourse.passOf MachineCourse.reached MachineCourse.goneOn MachineCourse.openedOf MachineCourse.closedBy MachineCourse.closedBare MachineCourse.closedOf MachineDevice.freshOf MachineDevice.tickOf MachineDevice.advanceOf MachineRun.ticksOf MachineStep.appliedOf MachineStep.takenOf MachineStep.carriedOn MachineStep.activeOf MachineStep.stepOf PipettorByte.fetchedOf PipettorByte.squeezedIn PipettorByte.gotOf PipettorByte.squeezedOf PipettorByte.taskOf PipettorByte.taskCode PipettorByte.taskDone PipettorByte.taskText PipettorByte.outcomeOf PipettorByte.saidOf PipettorByte.writtenOf PipettorByte.heardOf PipettorByte.byteOf PipettorController.madeOf PipettorController.advancedOf PipettorReports.goalIn PipettorReports.settingOf PipettorReports.valueOf PipettorReports.queryOf PipettorReports.toldOf Calls.callOf Calls.answerOf Calls.afterOf Calls.answersOf Calls.answers MachineDevice.ranOf MachineRun.usedOf PipettorController.runOf seen wrongIn wrongOf Calls.ticksEvents Calls.eventsOf Calls.after Calls.history History.callOf History.eventsOf
+computed = record {
+  the-examples-hold = refl;
+  no-mistake-is-made = refl;
+  what-no-impostor-plays = refl;
+  the-plunger-moves = record { calls = moved; plunger = leb-true 1 (after One moved .device .core .body .plunger) refl; events = refl };
+}

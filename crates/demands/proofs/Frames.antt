@@ -1,0 +1,66 @@
+-- Theorems over the bytes of frames, from any controller whose frame has 320 places: how each is treated, what is heard, and that calls give them.
+use mathlib.Core.Path.{_≡_, refl, ap}
+use mathlib.Core.Bool.{true}
+use mathlib.Core.List.{List, [], _∷_, _++_}
+use Prim.Native.Nat.{ℕ, _+_, _≤_}
+use lib.ListN.{length, replicate}
+use Rattle.basics.specs.Bytes.{every}
+use Rattle.line.specs.Wire.{dataByte}
+use Rattle.pipettor.specs.declared.Controller.{Controller}
+use Rattle.pipettor.specs.declared.Said.{Said}
+use Rattle.pipettor.specs.declared.Said.the-variants.{Silent}
+use Rattle.pipettor.specs.Byte.{byteOf}
+use Rattle.frames.specs.Frame.{exchangeOf, givenOf}
+use Rattle.frames.proofs.Frames.{a-whole-frame-is-an-exchange, other-bytes-do-nothing}
+use Rattle.frames.proofs.Listening.{listening-is-hearing-byte-by-byte}
+use Rattle.frames.proofs.Refusals as Refusals
+use Rattle.demands.specs.Calls.{callOf, answerOf, afterOf, eventsOf, answersOf}
+use Rattle.demands.specs.Frames.{last, frameSeen, Treated, Hears, giving, Gives}
+
+last-said : (s t : Said) (l : List Said) → last s (l ++ (t ∷ [])) ≡ t
+last-said s t [] = refl
+last-said s t (u ∷ l) = last-said u t l
+
+module _ (k : Controller) (sized : length (k .frame) ≡ 320) (buf : List ℕ) (long : 32 ≤ length buf) where
+  pub a-frame-is-seen-as-an-exchange : (ds : List ℕ) → every dataByte ds ≡ true → frameSeen k ds buf ≡ exchangeOf ds (k .address) (k .device) buf
+  a-frame-is-seen-as-an-exchange ds good =
+      let e = exchangeOf ds (k .address) (k .device) buf in
+      let x = a-whole-frame-is-an-exchange k ds buf sized good long in
+      rw (x .said, x .buffer, x .device, x .events, last-said Silent (e .next .said) (replicate (length ds + 2) Silent))
+
+  pub a-frame-is-treated-by-the-table : (ds : List ℕ) → every dataByte ds ≡ true → Treated ds (k .address) (k .device) buf (frameSeen k ds buf)
+  a-frame-is-treated-by-the-table ds good =
+      let a = k .address in
+      let d = k .device in
+      rw (a-frame-is-seen-as-an-exchange ds good)
+      (record {
+        number = record {
+          a-wrong-letter-is-2 = Refusals.a-wrong-letter-is-2 ds a d;
+          a-wrong-number-is-3 = Refusals.a-wrong-number-is-3 ds a d;
+          nothing-to-run-is-14 = Refusals.nothing-to-run-now-is-14 ds a d;
+          too-much-is-15 = Refusals.too-much-now-is-15 ds a d;
+          never-7-at-load = Refusals.never-7-at-load ds a d;
+          no-other-number = Refusals.no-other-number ds a d;
+        };
+        answered = Refusals.every-frame-is-answered ds a d buf;
+        a-refused-frame-leaves-the-error-only = Refusals.a-refused-frame-leaves-the-error-only ds a d buf;
+        an-accepted-frame-clears-the-error = Refusals.an-accepted-frame-clears-the-error ds a d buf;
+        a-report-leaves-everything = Refusals.reports-leave-everything ds a d buf;
+      })
+
+  pub a-controller-hears : Hears k buf
+  a-controller-hears =
+      record {
+        a-whole-frame-is-an-exchange = λ ds good. a-whole-frame-is-an-exchange k ds buf sized good long;
+        other-bytes-do-nothing = other-bytes-do-nothing k buf long;
+        listening-is-hearing-byte-by-byte = λ bytes. listening-is-hearing-byte-by-byte k bytes buf long;
+      }
+
+-- to give bytes one after the other is to call so often
+pub to-give-bytes-is-to-call : (k : Controller) (bs buf : List ℕ) → Gives k bs buf (givenOf k bs buf)
+unfolding givenOf giving afterOf eventsOf answersOf callOf answerOf
+to-give-bytes-is-to-call k [] buf = record { controller = refl; said = refl; buffer = refl; events = refl }
+to-give-bytes-is-to-call k (b ∷ bs) buf =
+    let t = byteOf k b buf in
+    let g = to-give-bytes-is-to-call (t .next .reply .controller) bs (t .next .buffer) in
+    record { controller = g .controller; said = ap (_∷_ (t .next .reply .said)) (g .said); buffer = g .buffer; events = ap (_++_ (t .events)) (g .events) }

@@ -1,0 +1,12 @@
+pub mod Does
+pub mod Sound
+pub mod Ticks
+pub mod Frames
+pub mod Exchanges
+pub mod Demands
+pub mod Contracts
+pub mod Examples
+pub mod Agreement
+pub mod Texts
+pub mod Volumes
+pub mod Tight

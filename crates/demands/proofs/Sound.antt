@@ -1,0 +1,129 @@
+-- What every controller keeps that comes from making and any calls: the premise of every call, the sum of its history, and its course.
+use mathlib.Core.Path.{_≡_, refl}
+use mathlib.Core.List.{List, [], _∷_, _++_}
+use Prim.Native.Nat.{ℕ, zero, suc}
+use native.Mathlib.Omega.{arith}
+use lib.Dec.{ltb}
+use lib.ListN.{length-replicate}
+use Rattle.basics.proofs.Choice.{by}
+use Rattle.motion.specs.Events.{Turn}
+use Rattle.motion.specs.Motion.{freshBody}
+use Rattle.machine.specs.declared.Device.{Device}
+use Rattle.machine.specs.declared.Ran.{Ran}
+use Rattle.machine.specs.Run.{ticksOf}
+use Rattle.machine.specs.Valid.{Ready}
+use Rattle.machine.specs.Device.{freshOf, tickOf, haltedOf, advanceOf, ranOf}
+use Rattle.machine.proofs.History.{added-on}
+use Rattle.machine.specs.History as Machine
+use Rattle.machine.specs.History.{Sum, sum, addedUp, sumOf, IsSum}
+use Rattle.machine.specs.OnCourse.{OnCourse}
+use Rattle.machine.proofs.Keeps.{step-keeps}
+use Rattle.machine.proofs.Position.{CoreTold, step-tells, act-tells, stop-tells}
+use Rattle.machine.proofs.OnCourse.{a-call-keeps-on-course, the-fresh-device-is-on-course}
+use Rattle.pipettor.specs.declared.address.Address.{Address}
+use Rattle.pipettor.specs.declared.Controller.{Controller}
+use Rattle.pipettor.specs.Valid.{Valid}
+use Rattle.pipettor.specs.Controller.{on, madeOf, tickedOf, stoppedOf, advancedOf, runOf}
+use Rattle.pipettor.proofs.Keeps.{Sized, made-is-valid, tick-keeps, stop-keeps-valid, advance-keeps, run-keeps, byte-keeps, byte-keeps-sizes, listen-keeps, listen-keeps-sizes}
+use Rattle.demands.specs.Calls.{Call, byte, listen, tick, stop, advance, run, ticksEvents, callOf, afterOf, eventsOf, after, history}
+use Rattle.demands.proofs.Does.{Does, none, new-error, call, ticks, every-call-does}
+
+-- the exact position stays the sum of the history, and the plunger by it or on its way
+call-tells : (k : Machine.Call) (d : Device) (s : Sum) → CoreTold (d .core) s → (let t = Machine.callOf k d in CoreTold (t .next .core) (addedUp s (t .events)))
+unfolding Machine.callOf tickOf haltedOf
+call-tells Machine.tick d s told = step-tells (d .core) s told (d .text)
+call-tells (Machine.act a added) d s told = act-tells (d .core) s told a added (d .text)
+call-tells Machine.stop d s told = stop-tells (d .core) s told
+
+ticks-tell : (n : ℕ) (d : Device) (s : Sum) → CoreTold (d .core) s → CoreTold (advanceOf n d .core) (addedUp s (ticksEvents n d))
+unfolding advanceOf ticksOf ticksEvents Machine.eventsOf Machine.callOf tickOf addedUp
+ticks-tell zero d s told = told
+ticks-tell (suc n) d s told =
+    let t = Machine.callOf Machine.tick d in
+    rw (added-on s (t .events) (ticksEvents n (t .next)))
+    (ticks-tell n (t .next) (addedUp s (t .events)) (call-tells Machine.tick d s told))
+
+does-tell : (d : Device) (s : Sum) (t : Turn Device) → Does d t → CoreTold (d .core) s → CoreTold (t .next .core) (addedUp s (t .events))
+unfolding addedUp
+does-tell d s t none told = told
+does-tell d s t (new-error code) told = told
+does-tell d s t (call k sent) told = call-tells k d s told
+does-tell d s t (ticks n) told = ticks-tell n d s told
+
+-- the course is kept
+ticks-keep-on-course : (n : ℕ) (d : Device) → Ready (d .core) (d .text) → OnCourse d → OnCourse (advanceOf n d)
+unfolding advanceOf ticksOf Machine.callOf tickOf
+ticks-keep-on-course zero d r o = o
+ticks-keep-on-course (suc n) d r o =
+    ticks-keep-on-course n (Machine.callOf Machine.tick d .next)
+    (record { valid = step-keeps (d .core) (r .valid) (d .text); long = r .long })
+    (a-call-keeps-on-course Machine.tick d r tt o)
+
+does-keep-on-course : (d : Device) (t : Turn Device) → Does d t → Ready (d .core) (d .text) → OnCourse d → OnCourse (t .next)
+does-keep-on-course d t none r o = o
+does-keep-on-course d t (new-error code) r o = o
+does-keep-on-course d t (call k sent) r o = a-call-keeps-on-course k d r sent o
+does-keep-on-course d t (ticks n) r o = ticks-keep-on-course n d r o
+
+-- the premise of every call, and the lengths of the arrays
+pub call-keeps-valid : (c : Call) (k : Controller) → Sized k → Valid k → Valid (callOf c k .next)
+unfolding callOf
+call-keeps-valid (byte b buf) k s v = byte-keeps k b buf s v
+call-keeps-valid (listen bytes) k s v = listen-keeps k bytes v
+call-keeps-valid tick k s v = tick-keeps k v
+call-keeps-valid stop k s v = stop-keeps-valid k v
+call-keeps-valid (advance n) k s v = advance-keeps k v n
+call-keeps-valid (run n) k s v = run-keeps k v n
+
+pub call-keeps-sized : (c : Call) (k : Controller) → Sized k → Sized (callOf c k .next)
+unfolding callOf tickedOf tickOf stoppedOf haltedOf advancedOf advanceOf runOf ranOf
+call-keeps-sized (byte b buf) k s = byte-keeps-sizes k b buf s
+call-keeps-sized (listen bytes) k s = listen-keeps-sizes k bytes s
+call-keeps-sized tick k s = record { frame = s .frame; text = s .text }
+call-keeps-sized stop k s = record { frame = s .frame; text = s .text }
+call-keeps-sized (advance n) k s = record { frame = s .frame; text = s .text }
+call-keeps-sized (run n) k s =
+    by (λ (r : Ran). Sized (on (r .device) k)) (ltb 60000 n)
+    (λ h. record { frame = s .frame; text = s .text })
+    (λ h. record { frame = s .frame; text = s .text })
+
+pub made-is-sized : (a : Address) → Sized (madeOf a .next)
+unfolding madeOf freshOf
+made-is-sized a = record { frame = length-replicate {A = ℕ} 320 0; text = length-replicate {A = ℕ} 256 0 }
+
+-- all of it, over any calls from making
+pub record Sound (k : Controller) (s : Sum) : Type 0 where
+  pub valid : Valid k
+  pub sized : Sized k
+  pub told : CoreTold (k .device .core) s
+  pub on-course : OnCourse (k .device)
+
+made-is-sound : (a : Address) → Sound (madeOf a .next) (sumOf (madeOf a .events))
+unfolding madeOf freshOf freshBody sumOf addedUp IsSum
+made-is-sound a =
+    record { valid = made-is-valid a; sized = made-is-sized a; told = record { sum = refl; near = omega arith }; on-course = the-fresh-device-is-on-course }
+
+call-keeps-sound : (c : Call) (k : Controller) (s : Sum) → Sound k s → Sound (callOf c k .next) (addedUp s (callOf c k .events))
+call-keeps-sound c k s h =
+    let does = every-call-does c k in
+    record {
+      valid = call-keeps-valid c k (h .sized) (h .valid);
+      sized = call-keeps-sized c k (h .sized);
+      told = does-tell (k .device) s _ does (h .told);
+      on-course = does-keep-on-course (k .device) _ does (record { valid = h .valid .core; long = h .sized .text }) (h .on-course);
+    }
+
+calls-keep-sound : (cs : List Call) (k : Controller) (s : Sum) → Sound k s → Sound (afterOf cs k) (addedUp s (eventsOf cs k))
+unfolding afterOf eventsOf addedUp
+calls-keep-sound [] k s h = h
+calls-keep-sound (c ∷ cs) k s h =
+    let t = callOf c k in
+    rw (added-on s (t .events) (eventsOf cs (t .next)))
+    (calls-keep-sound cs (t .next) (addedUp s (t .events)) (call-keeps-sound c k s h))
+
+pub every-controller-is-sound : (a : Address) (calls : List Call) → Sound (after a calls) (sumOf (history a calls))
+unfolding after history sumOf
+every-controller-is-sound a calls =
+    let m = madeOf a in
+    rw (added-on (sum 0 0 0) (m .events) (eventsOf calls (m .next)))
+    (calls-keep-sound calls (m .next) (sumOf (m .events)) (made-is-sound a))

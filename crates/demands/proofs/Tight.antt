@@ -1,0 +1,263 @@
+-- Theorems: the contract of every public function of the libraries is tight. One, `desk::printed`, hands out a reference and has a statement of its own, at the end;
+-- the console's `serve` has no result: it reads and writes.
+use mathlib.Core.Path.{_≡_, refl, sym, ap, _∙_}
+use mathlib.Core.List.{List}
+use Prim.Native.Nat.{ℕ}
+use contract.Lifetimes.{Lfts}
+use denote.Ref.{RefT, now}
+use denote.Triple.Clauses.{Lasts, atExit}
+use borrow.Fn.Kinds.{Dens, endedOf}
+use Rattle.pipettor.specs.Byte.{After}
+use Rattle.basics.proofs as basics
+use Rattle.decimal.proofs as decimal
+use Rattle.settings.proofs.units as units
+use Rattle.settings.proofs as settings
+use Rattle.operand.proofs as operand
+use Rattle.command.proofs as command
+use Rattle.line.proofs as line
+use Rattle.text.proofs as text
+use Rattle.motion.proofs as motion
+use Rattle.machine.proofs as machine
+use Rattle.pipettor.proofs as pipettor
+use Rattle.desk.proofs as desk
+use Rattle.demands.specs.Tight.{Same, Tight}
+
+-- a result that a contract gives by an equation, where nothing is lent to be changed
+result : {A B : Type 0} {z z′ v : A} {w : B} → z ≡ v → z′ ≡ v → Same z z′ w w
+result p q = record { result-is = p ∙ sym q; left-is = refl }
+
+-- the same with the bytes that are left in a lent slice, among what is left
+lent : {A B : Type 0} (among : List ℕ → B) {z z′ v : A} {l l′ u : List ℕ} → z ≡ v → z′ ≡ v → l ≡ u → l′ ≡ u → Same z z′ (among l) (among l′)
+lent among p q x y = record { result-is = p ∙ sym q; left-is = ap among (x ∙ sym y) }
+
+-- basics
+pub basics-is-digit : Tight basics.is_digit.Kinds.ps basics.is_digit.Kinds.r basics.is_digit.Reads.Learnt
+basics-is-digit κs args z z′ ws ws′ p q = result p q
+
+pub basics-lay : Tight basics.lay.Kinds.ps basics.lay.Kinds.r basics.lay.Reads.Learnt
+basics-lay κs args z z′ ws ws′ p q = lent (λ y. (tt, (y, (tt, tt)))) (p .said) (q .said) (p .left) (q .left)
+
+-- decimal
+pub decimal-put-whole : Tight decimal.put_whole.Kinds.ps decimal.put_whole.Kinds.r decimal.put_whole.Reads.Learnt
+decimal-put-whole κs args z z′ ws ws′ p q = lent (λ y. (tt, (y, (tt, tt)))) (p .said) (q .said) (p .left) (q .left)
+
+pub decimal-put-tenths : Tight decimal.put_tenths.Kinds.ps decimal.put_tenths.Kinds.r decimal.put_tenths.Reads.Learnt
+decimal-put-tenths κs args z z′ ws ws′ p q = lent (λ y. (tt, (y, (tt, tt)))) (p .said) (q .said) (p .left) (q .left)
+
+pub decimal-put-thousandths : Tight decimal.put_thousandths.Kinds.ps decimal.put_thousandths.Kinds.r decimal.put_thousandths.Reads.Learnt
+decimal-put-thousandths κs args z z′ ws ws′ p q = lent (λ y. (tt, (y, (tt, tt)))) (p .said) (q .said) (p .left) (q .left)
+
+-- units
+pub units-tenths : Tight units.tenths.Kinds.ps units.tenths.Kinds.r units.tenths.Reads.Learnt
+units-tenths κs args z z′ ws ws′ p q = result p q
+
+pub units-flow : Tight units.flow.Kinds.ps units.flow.Kinds.r units.flow.Reads.Learnt
+units-flow κs args z z′ ws ws′ p q = result p q
+
+pub units-ticks : Tight units.ticks.Kinds.ps units.ticks.Kinds.r units.ticks.Reads.Learnt
+units-ticks κs args z z′ ws ws′ p q = result p q
+
+pub units-rate : Tight units.rate.Kinds.ps units.rate.Kinds.r units.rate.Reads.Learnt
+units-rate κs args z z′ ws ws′ p q = result p q
+
+pub units-goal : Tight units.goal.Kinds.ps units.goal.Kinds.r units.goal.Reads.Learnt
+units-goal κs args z z′ ws ws′ p q = result p q
+
+pub units-nanolitres : Tight units.nanolitres.Kinds.ps units.nanolitres.Kinds.r units.nanolitres.Reads.Learnt
+units-nanolitres κs args z z′ ws ws′ p q = result p q
+
+pub units-gone : Tight units.gone.Kinds.ps units.gone.Kinds.r units.gone.Reads.Learnt
+units-gone κs args z z′ ws ws′ p q = result p q
+
+-- settings
+pub settings-Range-has : Tight settings.Range.has.Kinds.ps settings.Range.has.Kinds.r settings.Range.has.Reads.Learnt
+settings-Range-has κs args z z′ ws ws′ p q = result p q
+
+pub settings-Settings-default : Tight settings.Settings.default.Kinds.ps settings.Settings.default.Kinds.r settings.Settings.default.Reads.Learnt
+settings-Settings-default κs args z z′ ws ws′ p q = result p q
+
+pub settings-Settings-range : Tight settings.Settings.range.Kinds.ps settings.Settings.range.Kinds.r settings.Settings.range.Reads.Learnt
+settings-Settings-range κs args z z′ ws ws′ p q = result p q
+
+pub settings-Settings-usual : Tight settings.Settings.usual.Kinds.ps settings.Settings.usual.Kinds.r settings.Settings.usual.Reads.Learnt
+settings-Settings-usual κs args z z′ ws ws′ p q = result p q
+
+pub settings-Settings-speeds : Tight settings.Settings.speeds.Kinds.ps settings.Settings.speeds.Kinds.r settings.Settings.speeds.Reads.Learnt
+settings-Settings-speeds κs args z z′ ws ws′ p q = result p q
+
+pub settings-Settings-flows : Tight settings.Settings.flows.Kinds.ps settings.Settings.flows.Kinds.r settings.Settings.flows.Reads.Learnt
+settings-Settings-flows κs args z z′ ws ws′ p q = result p q
+
+pub settings-Settings-usual-speed : Tight settings.Settings.usual_speed.Kinds.ps settings.Settings.usual_speed.Kinds.r settings.Settings.usual_speed.Reads.Learnt
+settings-Settings-usual-speed κs args z z′ ws ws′ p q = result p q
+
+pub settings-Volume-millionths : Tight settings.Volume.millionths.Kinds.ps settings.Volume.millionths.Kinds.r settings.Volume.millionths.Reads.Learnt
+settings-Volume-millionths κs args z z′ ws ws′ p q = result p q
+
+-- operand
+pub operand-one : Tight operand.one.Kinds.ps operand.one.Kinds.r operand.one.Reads.Learnt
+operand-one κs args z z′ ws ws′ p q = result p q
+
+pub operand-two : Tight operand.two.Kinds.ps operand.two.Kinds.r operand.two.Reads.Learnt
+operand-two κs args z z′ ws ws′ p q = result p q
+
+pub operand-extent : Tight operand.extent.Kinds.ps operand.extent.Kinds.r operand.extent.Reads.Learnt
+operand-extent κs args z z′ ws ws′ p q = result p q
+
+-- command
+pub command-Refusal-number : Tight command.Refusal.number.Kinds.ps command.Refusal.number.Kinds.r command.Refusal.number.Reads.Learnt
+command-Refusal-number κs args z z′ ws ws′ p q = result p q
+
+pub command-command-at : Tight command.command_at.Kinds.ps command.command_at.Kinds.r command.command_at.Reads.Learnt
+command-command-at κs args z z′ ws ws′ p q = result p q
+
+-- line
+pub line-printable : Tight line.printable.Kinds.ps line.printable.Kinds.r line.printable.Reads.Learnt
+line-printable κs args z z′ ws ws′ p q = result p q
+
+pub line-Line-fresh : Tight line.Line.fresh.Kinds.ps line.Line.fresh.Kinds.r line.Line.fresh.Reads.Learnt
+line-Line-fresh κs args z z′ ws ws′ p q = result p q
+
+pub line-Line-hear : Tight line.Line.hear.Kinds.ps line.Line.hear.Kinds.r line.Line.hear.Reads.Learnt
+line-Line-hear κs args z z′ ws ws′ p q = result p q
+
+pub line-keep : Tight line.keep.Kinds.ps line.keep.Kinds.r line.keep.Reads.Learnt
+line-keep κs args z z′ ws ws′ p q = lent (λ y. (y, (tt, (tt, tt)))) refl refl p q
+
+pub line-status : Tight line.status.Kinds.ps line.status.Kinds.r line.status.Reads.Learnt
+line-status κs args z z′ ws ws′ p q = result p q
+
+pub line-answer : Tight line.answer.Kinds.ps line.answer.Kinds.r line.answer.Reads.Learnt
+line-answer κs args z z′ ws ws′ p q = lent (λ y. (tt, (tt, (y, tt)))) (p .said) (q .said) (p .left) (q .left)
+
+-- text
+pub text-check : Tight text.check.Kinds.ps text.check.Kinds.r text.check.Reads.Learnt
+text-check κs args z z′ ws ws′ p q = result p q
+
+pub text-squeeze : Tight text.squeeze.Kinds.ps text.squeeze.Kinds.r text.squeeze.Reads.Learnt
+text-squeeze κs args z z′ ws ws′ p q = lent (λ y. (y, tt)) (p .count) (q .count) (p .bytes) (q .bytes)
+
+pub text-read : Tight text.read.Kinds.ps text.read.Kinds.r text.read.Reads.Learnt
+text-read κs args z z′ ws ws′ p q = result p q
+
+pub text-loops-loops-ok : Tight text.loops.loops_ok.Kinds.ps text.loops.loops_ok.Kinds.r text.loops.loops_ok.Reads.Learnt
+text-loops-loops-ok κs args z z′ ws ws′ p q = result p q
+
+-- motion
+pub motion-Body-fresh : Tight motion.Body.fresh.Kinds.ps motion.Body.fresh.Kinds.r motion.Body.fresh.Reads.Learnt
+motion-Body-fresh κs args z z′ ws ws′ p q = result p q
+
+pub motion-Body-effect : Tight motion.Body.effect.Kinds.ps motion.Body.effect.Kinds.r motion.Body.effect.Reads.Learnt
+motion-Body-effect κs args z z′ ws ws′ p q = result p q
+
+pub motion-Body-onward : Tight motion.Body.onward.Kinds.ps motion.Body.onward.Kinds.r motion.Body.onward.Reads.Learnt
+motion-Body-onward κs args z z′ ws ws′ p q = result p q
+
+pub motion-Body-cut : Tight motion.Body.cut.Kinds.ps motion.Body.cut.Kinds.r motion.Body.cut.Reads.Learnt
+motion-Body-cut κs args z z′ ws ws′ p q = result p q
+
+pub motion-Body-reset : Tight motion.Body.reset.Kinds.ps motion.Body.reset.Kinds.r motion.Body.reset.Reads.Learnt
+motion-Body-reset κs args z z′ ws ws′ p q = result p q
+
+-- machine
+pub machine-course-Loops-none : Tight machine.course.Loops.none.Kinds.ps machine.course.Loops.none.Kinds.r machine.course.Loops.none.Reads.Learnt
+machine-course-Loops-none κs args z z′ ws ws′ p q = result p q
+
+pub machine-course-Course-reach : Tight machine.course.Course.reach.Kinds.ps machine.course.Course.reach.Kinds.r machine.course.Course.reach.Reads.Learnt
+machine-course-Course-reach κs args z z′ ws ws′ p q = result p q
+
+pub machine-course-Course-go-on : Tight machine.course.Course.go_on.Kinds.ps machine.course.Course.go_on.Kinds.r machine.course.Course.go_on.Reads.Learnt
+machine-course-Course-go-on κs args z z′ ws ws′ p q = result p q
+
+pub machine-course-Course-failed : Tight machine.course.Course.failed.Kinds.ps machine.course.Course.failed.Kinds.r machine.course.Course.failed.Reads.Learnt
+machine-course-Course-failed κs args z z′ ws ws′ p q = result p q
+
+pub machine-course-Course-open : Tight machine.course.Course.open.Kinds.ps machine.course.Course.open.Kinds.r machine.course.Course.open.Reads.Learnt
+machine-course-Course-open κs args z z′ ws ws′ p q = result p q
+
+pub machine-course-Course-close : Tight machine.course.Course.close.Kinds.ps machine.course.Course.close.Kinds.r machine.course.Course.close.Reads.Learnt
+machine-course-Course-close κs args z z′ ws ws′ p q = result p q
+
+pub machine-step-Core-ready : Tight machine.step.Core.ready.Kinds.ps machine.step.Core.ready.Kinds.r machine.step.Core.ready.Reads.Learnt
+machine-step-Core-ready κs args z z′ ws ws′ p q = result p q
+
+pub machine-step-run : Tight machine.step.run.Kinds.ps machine.step.run.Kinds.r machine.step.run.Reads.Learnt
+machine-step-run κs args z z′ ws ws′ p q = result p q
+
+pub machine-buffer-Action-order : Tight machine.buffer.Action.order.Kinds.ps machine.buffer.Action.order.Kinds.r machine.buffer.Action.order.Reads.Learnt
+machine-buffer-Action-order κs args z z′ ws ws′ p q = result p q
+
+pub machine-buffer-Order-code : Tight machine.buffer.Order.code.Kinds.ps machine.buffer.Order.code.Kinds.r machine.buffer.Order.code.Reads.Learnt
+machine-buffer-Order-code κs args z z′ ws ws′ p q = result p q
+
+pub machine-step-Core-stop : Tight machine.step.Core.stop.Kinds.ps machine.step.Core.stop.Kinds.r machine.step.Core.stop.Reads.Learnt
+machine-step-Core-stop κs args z z′ ws ws′ p q = result p q
+
+pub machine-step-Core-with-error : Tight machine.step.Core.with_error.Kinds.ps machine.step.Core.with_error.Kinds.r machine.step.Core.with_error.Reads.Learnt
+machine-step-Core-with-error κs args z z′ ws ws′ p q = result p q
+
+pub machine-step-Core-act : Tight machine.step.Core.act.Kinds.ps machine.step.Core.act.Kinds.r machine.step.Core.act.Reads.Learnt
+machine-step-Core-act κs args z z′ ws ws′ p q = result p q
+
+pub machine-step-Core-skip : Tight machine.step.Core.skip.Kinds.ps machine.step.Core.skip.Kinds.r machine.step.Core.skip.Reads.Learnt
+machine-step-Core-skip κs args z z′ ws ws′ p q = result p q
+
+pub machine-buffer-store : Tight machine.buffer.store.Kinds.ps machine.buffer.store.Kinds.r machine.buffer.store.Reads.Learnt
+machine-buffer-store κs args z z′ ws ws′ p q = lent (λ y. (tt, (tt, (tt, (tt, (y, tt)))))) refl refl p q
+
+pub machine-Device-fresh : Tight machine.Device.fresh.Kinds.ps machine.Device.fresh.Kinds.r machine.Device.fresh.Reads.Learnt
+machine-Device-fresh κs args z z′ ws ws′ p q = result p q
+
+pub machine-Device-tick : Tight machine.Device.tick.Kinds.ps machine.Device.tick.Kinds.r machine.Device.tick.Reads.Learnt
+machine-Device-tick κs args z z′ ws ws′ p q = result p q
+
+pub machine-Device-advance : Tight machine.Device.advance.Kinds.ps machine.Device.advance.Kinds.r machine.Device.advance.Reads.Learnt
+machine-Device-advance κs args z z′ ws ws′ p q = result p q
+
+pub machine-Device-run : Tight machine.Device.run.Kinds.ps machine.Device.run.Kinds.r machine.Device.run.Reads.Learnt
+machine-Device-run κs args z z′ ws ws′ p q = result p q
+
+pub machine-Device-stop : Tight machine.Device.stop.Kinds.ps machine.Device.stop.Kinds.r machine.Device.stop.Reads.Learnt
+machine-Device-stop κs args z z′ ws ws′ p q = result p q
+
+-- pipettor
+pub pipettor-address-Address-of : Tight pipettor.address.Address.of.Kinds.ps pipettor.address.Address.of.Kinds.r pipettor.address.Address.of.Reads.Learnt
+pipettor-address-Address-of κs args z z′ ws ws′ p q = result p q
+
+pub pipettor-address-Address-letter : Tight pipettor.address.Address.letter.Kinds.ps pipettor.address.Address.letter.Kinds.r pipettor.address.Address.letter.Reads.Learnt
+pipettor-address-Address-letter κs args z z′ ws ws′ p q = result p q
+
+pub pipettor-Controller-fresh : Tight pipettor.Controller.fresh.Kinds.ps pipettor.Controller.fresh.Kinds.r pipettor.Controller.fresh.Reads.Learnt
+pipettor-Controller-fresh κs args z z′ ws ws′ p q = result p q
+
+pub pipettor-Controller-byte : Tight pipettor.Controller.byte.Kinds.ps pipettor.Controller.byte.Kinds.r pipettor.Controller.byte.Reads.Learnt
+pipettor-Controller-byte κs args z z′ ws ws′ p q = lent (λ y. (tt, (tt, (y, tt)))) (ap (λ (a : After). a .reply) p) (ap (λ (a : After). a .reply) q) (ap (λ (a : After). a .buffer) p) (ap (λ (a : After). a .buffer) q)
+
+pub pipettor-Controller-listen : Tight pipettor.Controller.listen.Kinds.ps pipettor.Controller.listen.Kinds.r pipettor.Controller.listen.Reads.Learnt
+pipettor-Controller-listen κs args z z′ ws ws′ p q = result p q
+
+pub pipettor-Controller-tick : Tight pipettor.Controller.tick.Kinds.ps pipettor.Controller.tick.Kinds.r pipettor.Controller.tick.Reads.Learnt
+pipettor-Controller-tick κs args z z′ ws ws′ p q = result p q
+
+pub pipettor-Controller-advance : Tight pipettor.Controller.advance.Kinds.ps pipettor.Controller.advance.Kinds.r pipettor.Controller.advance.Reads.Learnt
+pipettor-Controller-advance κs args z z′ ws ws′ p q = result p q
+
+pub pipettor-Controller-run : Tight pipettor.Controller.run.Kinds.ps pipettor.Controller.run.Kinds.r pipettor.Controller.run.Reads.Learnt
+pipettor-Controller-run κs args z z′ ws ws′ p q = result p q
+
+pub pipettor-Controller-stop : Tight pipettor.Controller.stop.Kinds.ps pipettor.Controller.stop.Kinds.r pipettor.Controller.stop.Reads.Learnt
+pipettor-Controller-stop κs args z z′ ws ws′ p q = result p q
+
+-- desk
+pub desk-read : Tight desk.read.Kinds.ps desk.read.Kinds.r desk.read.Reads.Learnt
+desk-read κs args z z′ ws ws′ p q = result p q
+
+pub desk-line-end : Tight desk.line_end.Kinds.ps desk.line_end.Kinds.r desk.line_end.Reads.Learnt
+desk-line-end κs args z z′ ws ws′ p q = result (p .place) (q .place)
+
+-- the one exception, since it hands out a reference: its contract determines the bytes that are seen through it, and not where they lie
+pub desk-printed :
+    (κs : Lfts 1) (args : Dens κs desk.printed.Kinds.ps) (z z′ : RefT (List ℕ)) (ws : Lasts (endedOf 1 desk.printed.Kinds.ps desk.printed.Kinds.r) κs args) →
+    desk.printed.Reads.Learnt κs args z (atExit (endedOf 1 desk.printed.Kinds.ps desk.printed.Kinds.r) κs args ws) →
+    desk.printed.Reads.Learnt κs args z′ (atExit (endedOf 1 desk.printed.Kinds.ps desk.printed.Kinds.r) κs args ws) → now z ≡ now z′
+desk-printed κs args z z′ ws p q = p ∙ sym q

@@ -1,0 +1,80 @@
+-- The calls on a controller, from making on: what each leaves behind, adds to the history, and hands back.
+use Prim.Native.Nat.{ℕ}
+use mathlib.Core.List.{List, [], _∷_, _++_}
+use lib.ListN.{replicate}
+use Rattle.motion.specs.Events.{Event, Turn, quiet}
+use Rattle.machine.specs.declared.Device.{Device}
+use Rattle.machine.specs.declared.Used.{Used}
+use Rattle.machine.specs.declared.Used.the-variants.{Ticks, S3}
+use Rattle.machine.specs.History as Machine
+use Rattle.pipettor.specs.declared.address.Address.{Address}
+use Rattle.pipettor.specs.declared.Controller.{Controller}
+use Rattle.pipettor.specs.declared.Said.{Said}
+use Rattle.pipettor.specs.Byte.{byteOf}
+use Rattle.pipettor.specs.Listening.{listenedOf}
+use Rattle.pipettor.specs.Controller.{madeOf, tickedOf, stoppedOf, advancedOf, runOf}
+
+-- a byte received, with the answer buffer lent for it; bytes handed over at once, as far as none completes a frame; a tick; the host's stop; so many ticks; a run of at most so many
+pub data Call : Type 0 where
+  byte : ℕ → List ℕ → Call
+  listen : List ℕ → Call
+  tick : Call
+  stop : Call
+  advance : ℕ → Call
+  run : ℕ → Call
+
+-- what so many ticks add to the history
+unfoldable pub ticksEvents : ℕ → Device → List Event
+ticksEvents n d = Machine.eventsOf (replicate n Machine.tick) d
+
+-- "the answer says how many ticks it used"; "S3: .. nothing changed"
+abbrev pub ticksUsed : Used → ℕ
+ticksUsed (Ticks n) = n
+ticksUsed S3 = 0
+
+-- the controller after a call, and what the call adds to the history
+unfoldable pub callOf : Call → Controller → Turn Controller
+callOf (byte b buf) k = let t = byteOf k b buf in record { next = t .next .reply .controller; events = t .events }
+callOf (listen bytes) k = quiet (listenedOf k bytes .controller)
+callOf tick k = tickedOf k
+callOf stop k = stoppedOf k
+callOf (advance n) k = record { next = advancedOf n k; events = ticksEvents n (k .device) }
+callOf (run n) k = let r = runOf n k in record { next = r .controller; events = ticksEvents (ticksUsed (r .used)) (k .device) }
+
+-- what a call hands back beside the controller: what a byte says, with the buffer afterwards; how many bytes were taken; how many ticks a run used
+pub data Answered : Type 0 where
+  said : Said → List ℕ → Answered
+  taken : ℕ → Answered
+  used : Used → Answered
+  nothing : Answered
+
+unfoldable pub answerOf : Call → Controller → Answered
+answerOf (byte b buf) k = let a = byteOf k b buf .next in said (a .reply .said) (a .buffer)
+answerOf (listen bytes) k = taken (listenedOf k bytes .n)
+answerOf tick k = nothing
+answerOf stop k = nothing
+answerOf (advance n) k = nothing
+answerOf (run n) k = used (runOf n k .used)
+
+-- calls, first to last: the controller they leave, all that they add to the history, and all that they hand back
+unfoldable pub afterOf : List Call → Controller → Controller
+afterOf [] k = k
+afterOf (c ∷ cs) k = afterOf cs (callOf c k .next)
+
+unfoldable pub eventsOf : List Call → Controller → List Event
+eventsOf [] k = []
+eventsOf (c ∷ cs) k = callOf c k .events ++ eventsOf cs (callOf c k .next)
+
+unfoldable pub answersOf : List Call → Controller → List Answered
+answersOf [] k = []
+answersOf (c ∷ cs) k = answerOf c k ∷ answersOf cs (callOf c k .next)
+
+-- the same from making
+unfoldable pub after : Address → List Call → Controller
+after a calls = afterOf calls (madeOf a .next)
+
+unfoldable pub history : Address → List Call → List Event
+history a calls = madeOf a .events ++ eventsOf calls (madeOf a .next)
+
+unfoldable pub answers : Address → List Call → List Answered
+answers a calls = answersOf calls (madeOf a .next)

@@ -1,0 +1,116 @@
+-- The three demands, over any calls from making. What they say of frames stands in `specs/Frames`. `proofs/Demands` proves 1 and 3, `proofs/Agreement` 2.
+use Prim.Native.Nat.{ℕ, _-_, _≤_, _<_}
+use mathlib.Core.Path.{_≡_}
+use mathlib.Core.Logic.{_⊎_}
+use mathlib.Core.Bool.{true, false}
+use mathlib.Core.List.{List, [], _∷_, _++_}
+use lib.ListN.{length, drop}
+use Rattle.basics.specs.Bytes.{every}
+use Rattle.settings.specs.declared.Volume.{Volume}
+use Rattle.line.specs.Wire.{dataByte}
+use Rattle.motion.specs.declared.Activity.{Activity}
+use Rattle.motion.specs.declared.Activity.the-variants.{Between}
+use Rattle.motion.specs.Events.{quiet, start, volume}
+use Rattle.machine.specs.declared.course.State.the-variants.{Empty, Running}
+use Rattle.machine.specs.declared.Used.the-variants.{Ticks, S3}
+use Rattle.machine.specs.Run.{readyOf}
+use Rattle.machine.specs.Refusals.{Exactly}
+use Rattle.machine.specs.History.{sumOf, IsSum, StandsBy, moving}
+use Rattle.machine.specs.OnCourse as OnCourse
+use Rattle.machine.specs.OnCourse.{Fault}
+use Rattle.pipettor.specs.declared.address.Address.{Address}
+use Rattle.pipettor.specs.declared.address.Address.the-variants.{One}
+use Rattle.pipettor.specs.declared.address.Given.the-variants.{Is, S2}
+use Rattle.pipettor.specs.declared.Controller.{Controller}
+use Rattle.pipettor.specs.declared.Said.{Said}
+use Rattle.pipettor.specs.declared.Said.the-variants.{Silent, Answer, S1}
+use Rattle.pipettor.specs.Address.{letterOf, addressOf}
+use Rattle.pipettor.specs.Valid.{Valid}
+use Rattle.pipettor.specs.Byte as Byte
+use Rattle.pipettor.specs.Byte.{byteOf}
+use Rattle.pipettor.specs.Controller.{tickedOf, advancedOf, runOf}
+use Rattle.demands.specs.Calls.{Call, after, history, answers}
+use Rattle.demands.specs.Frames.{frameSeen, Treated, Hears, frameAfter, ExchangesFrame}
+use Rattle.demands.specs.Contracts.{Program, Meets, TakesAll, leftBy, answeredBy}
+
+-- 1. Every call is answered, and refuses as 01's table says.
+-- a run's count of ticks: no more than allowed, not ready before so many, and ready after them where fewer than allowed are used
+pub record Counted (n : ℕ) (k : Controller) (count : ℕ) : Type 0 where
+  pub run : runOf n k ≡ record { controller = advancedOf count k; used = Ticks count }
+  pub within : count ≤ n
+  pub busy-before : (i : ℕ) → i < count → readyOf (advancedOf i k .device .core) ≡ false
+  pub ready-after : count < n → readyOf (advancedOf count k .device .core) ≡ true
+
+-- what a byte leaves of the buffer: "A silent byte and an S refusal write nothing to the answer buffer. Bytes after an answer's end stay as they were."
+abbrev pub Written : Said → List ℕ → List ℕ → Type 0
+Written Silent before after = after ≡ before
+Written S1 before after = after ≡ before
+Written (Answer n) before after = (n ≤ 20) × (length after ≡ length before) × (drop n after ≡ drop n before)
+
+-- of a controller:
+pub record Answers (k : Controller) : Type 0 where
+  -- "A call's only premise is that its controller came from making and earlier calls": what each contract asks holds
+  pub every-premise-holds : Valid k
+  -- "S1: answer buffer lent is shorter than 32 bytes: controller and buffer unchanged"; it comes before everything else
+  pub a-short-buffer-is-S1 : (b : ℕ) (buf : List ℕ) → Exactly (byteOf k b buf .next .reply .said ≡ S1) (length buf < 32)
+  pub S1-changes-nothing : (b : ℕ) (buf : List ℕ) → length buf < 32 → byteOf k b buf ≡ quiet (Byte.after (Byte.reply k S1) buf)
+  pub a-byte-writes-its-answer-only : (b : ℕ) (buf : List ℕ) → (let r = byteOf k b buf .next in Written (r .reply .said) buf (r .buffer))
+  -- the bytes of a frame to us, whatever its data: it gets each number exactly where 01's table gives it, and leaves what the table says
+  pub a-frame-is-treated-by-the-table : (ds buf : List ℕ) → every dataByte ds ≡ true → 32 ≤ length buf → Treated ds (k .address) (k .device) buf (frameSeen k ds buf)
+  -- "S3: more than 60000 ticks asked of a run: nothing changed"
+  pub a-long-run-is-S3 : (n : ℕ) → 60000 < n → runOf n k ≡ record { controller = k; used = S3 }
+  -- any other is counted: "the answer says how many ticks it used"
+  pub a-run-counts-its-ticks : (n : ℕ) → n ≤ 60000 → (count : ℕ) × Counted n k count
+  -- no tick meets a command that doesn't read, nor a fifth loop
+  pub a-run-meets-a-command : k .device .core .course .state ≡ Running Between → OnCourse.Meets (k .device .text) (k .device .core .course)
+  -- a tick in which a run fails takes A, P or D, and fails by 7 where the plunger is not initialised, else by 3 for a goal outside travel, and in no other way;
+  -- it sets the last error, erases the text, and changes nothing else
+  pub a-run-fails-by-7-or-3 :
+      (doing : Activity) → k .device .core .course .state ≡ Running doing → tickedOf k .next .device .core .course .state ≡ Empty →
+      Fault (k .device .text) (k .device .core)
+
+-- making: "Our address is one of `1` to `9`"; "S2: address outside 1 to 9 at making: no controller is made"
+pub record Makes : Type 0 where
+  pub one-to-nine : (a : Address) → addressOf (letterOf a - 48) ≡ Is a
+  pub any-other-is-S2 : (n : ℕ) → Exactly (addressOf n ≡ S2) ((n ≡ 0) ⊎ (9 < n))
+
+pub record TotalityAndRefusals : Type 0 where
+  pub making : Makes
+  pub calling : (a : Address) (calls : List Call) → Answers (after a calls)
+
+-- 2. Any program that meets the contracts does what the definition does, call for call: the controller left after calls from making,
+-- and all that was handed back on the way, every byte of every answer buffer included; and what it is called on next meets every premise
+pub record Agrees (p : Program) (a : Address) (calls : List Call) : Type 0 where
+  pub premise : Valid (leftBy p calls (p .fresh a))
+  pub controller : leftBy p calls (p .fresh a) ≡ after a calls
+  pub answered : answeredBy p calls (p .fresh a) ≡ answers a calls
+
+pub record Agreement : Type 1 where
+  pub every-program-agrees : (p : Program) → Meets p → (a : Address) (calls : List Call) → TakesAll p calls → Agrees p a calls
+  -- what the definition makes of whole frames, and of all other bytes, needs no receiver to be said
+  pub frames : (a : Address) (calls : List Call) (buf : List ℕ) → 32 ≤ length buf → Hears (after a calls) buf
+  -- and so a program's answers to a whole frame are the exchange of its data, the address and the device
+  pub every-program-exchanges-frames :
+      (p : Program) → Meets p → (a : Address) (calls : List Call) (ds buf : List ℕ) → every dataByte ds ≡ true → 32 ≤ length buf →
+      TakesAll p (calls ++ frameAfter a calls ds buf) → ExchangesFrame p a calls ds buf
+
+abbrev nL : ℕ → Volume
+nL n = record { amount = n; micro = true }
+
+-- 3. Where the plunger stands, of a controller and the history of the calls it comes from:
+pub record Stands (a : Address) (calls : List Call) : Type 0 where
+  -- it never leaves its travel
+  pub within-travel : after a calls .device .core .body .plunger ≤ 44000
+  -- the exact position that is kept is the history's sum: the last start, all that was taken in since, less all that was given out
+  pub exact-is-the-sum : IsSum (after a calls .device .core .body .exact) (sumOf (history a calls))
+  -- "Whenever no movement is in progress the plunger stands within half an increment of the exact position"
+  pub near-at-rest : moving (after a calls .device .core .course .state) ≡ false → StandsBy (after a calls .device .core .body .plunger) (sumOf (history a calls))
+
+abbrev pub Position : Type 0
+Position = (a : Address) (calls : List Call) → Stands a calls
+
+-- and it isn't said of a plunger that never leaves 0: calls that move it, and the history they make
+pub record Moves : Type 0 where
+  pub calls : List Call
+  pub plunger : 0 < after One calls .device .core .body .plunger
+  pub events : history One calls ≡ start 0 ∷ start 0 ∷ volume (nL 10) 40000 true ∷ volume (nL 10) 40000 true ∷ []

@@ -1,0 +1,7 @@
+pub mod Calls
+pub mod Contracts
+pub mod Frames
+pub mod Demands
+pub mod Tight
+pub mod Script
+pub mod Texts

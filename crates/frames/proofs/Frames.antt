@@ -1,0 +1,140 @@
+-- Theorems: the bytes of a whole frame to us do what its data do, whatever the receiver had in hand; all other bytes do nothing.
+use mathlib.Core.Path.{_≡_, refl, sym, ap, _∙_}
+use mathlib.Core.Bool.{Bool, true}
+use mathlib.Core.List.{List, [], _∷_}
+use Prim.Native.Nat.{ℕ, suc, _+_, _≤_, _<_, min}
+use native.Mathlib.Omega.{arith}
+use borrow.Author.Tests.{lt-ltb, le-ltb, ltb-true, ltb-false, eq-eqb}
+use lib.Dec.{ltb}
+use lib.ListN.{length, take}
+use lib.Seq.{take-all, take-append-le}
+use Rattle.basics.specs.Bytes.{every}
+use Rattle.basics.specs.Lay.{over}
+use Rattle.basics.proofs.Choice.{by}
+use Rattle.text.specs.declared.Data.{Data}
+use Rattle.text.specs.declared.Data.the-variants as D
+use Rattle.text.specs.Data.{spaceless, dataOf, receivedOf}
+use Rattle.text.proofs.Strings.{a-text-stands-in-front}
+use Rattle.line.specs.declared.Deed.the-variants as W
+use Rattle.line.specs.Wire.{slash, cr, printable, hearOf, keepOf, Received, hears, feed, framesOf, dataByte, framed}
+use Rattle.line.proofs.Receiving.{whole-frame, after-noise, feed-append, feed-long, frame-kept}
+use Rattle.motion.specs.Events.{Turn}
+use Rattle.pipettor.specs.declared.address.Address.{Address}
+use Rattle.pipettor.specs.declared.address.Address.the-variants.{One, Two, Three, Four, Five, Six, Seven, Eight, Nine}
+use Rattle.pipettor.specs.declared.acting.Got.the-variants as G
+use Rattle.pipettor.specs.declared.Controller.{Controller}
+use Rattle.pipettor.specs.Address.{letterOf}
+use Rattle.pipettor.specs.Byte.{After, reply, fetchedOf, squeezedIn, gotOf, squeezedOf, sizeOf, byteOf}
+use Rattle.frames.specs.Frame.{Exchange, addedOf, exchangeOf, givenOf, ToUs, Unheeded, Others}
+use Rattle.frames.proofs.Bytes.{receiver, hearing, given-last, byte-does, byte-frame, given-others}
+
+-- a text is no longer than the data that hold it
+text-fits : (t : List ℕ) (d : Data) → dataOf t ≡ d → sizeOf (G.Data d) ≤ length t
+text-fits t (D.Report q) e = omega arith
+text-fits t D.WrongReport e = omega arith
+text-fits t (D.Control c) e = omega arith
+text-fits t (D.Text n run) e = a-text-stands-in-front n run t e .short
+text-fits t (D.Wrong r) e = omega arith
+text-fits t D.TooLong e = omega arith
+
+-- what the frame in hand brings at the CR, and the characters that come with it
+module _ (ds f : List ℕ) (kept : take (min 320 (length ds)) f ≡ take 320 ds) where
+  abbrev Brings : ℕ → Type 0
+  Brings n = (fetchedOf n f ≡ G.Data (receivedOf ds)) × (take (sizeOf (fetchedOf n f)) (squeezedIn n f) ≡ addedOf ds)
+
+  too-many : 320 < length ds → Brings (min 321 (length ds))
+  unfolding fetchedOf squeezedIn receivedOf addedOf
+  too-many h =
+      let n : min 321 (length ds) ≡ 321 = omega arith in
+      rw (n, lt-ltb 320 (length ds) h) (refl, refl)
+
+  all-kept : length ds ≤ 320 → Brings (min 321 (length ds))
+  unfolding fetchedOf squeezedIn receivedOf addedOf over
+  all-kept h =
+      let n : min 321 (length ds) ≡ min 320 (length ds) = omega arith in
+      let m : min 320 (length ds) ≤ 320 = omega arith in
+      let whole : take (min 320 (length ds)) f ≡ ds = kept ∙ take-all 320 ds h in
+      rw (n, le-ltb 320 (min 320 (length ds)) m, le-ltb 320 (length ds) h, whole)
+      (refl, take-append-le _ (spaceless ds) _ (text-fits (spaceless ds) _ refl))
+
+  brings : Brings (min 321 (length ds))
+  brings = by (λ (t : Bool). Brings (min 321 (length ds))) (ltb 320 (length ds)) {a = true} {b = true} (λ e. too-many (ltb-true 320 (length ds) e)) (λ e. all-kept (ltb-false 320 (length ds) e))
+
+-- our letter may stand in a frame
+our-letter : (a : Address) → dataByte (letterOf a) ≡ true
+unfolding dataByte printable
+our-letter One = refl
+our-letter Two = refl
+our-letter Three = refl
+our-letter Four = refl
+our-letter Five = refl
+our-letter Six = refl
+our-letter Seven = refl
+our-letter Eight = refl
+our-letter Nine = refl
+
+-- the CR of a frame to us
+module _ (k : Controller) (ds buf : List ℕ) (long : 32 ≤ length buf) where
+  abbrev ours : ℕ
+  ours = letterOf (k .address)
+
+  -- what the exchange leaves
+  abbrev done : Turn Exchange
+  done = exchangeOf ds (k .address) (k .device) buf
+
+  record Ended (t : Turn After) : Type 0 where
+    said : t .next .reply .said ≡ done .next .said
+    buffer : t .next .buffer ≡ done .next .buffer
+    device : t .next .reply .controller .device ≡ done .next .device
+    events : t .events ≡ done .events
+    address : t .next .reply .controller .address ≡ k .address
+    line : t .next .reply .controller .line ≡ hearOf (k .line) cr .line
+
+  ends : hearOf (k .line) cr .deed ≡ W.Frame ours (min 321 (length ds)) → take (min 320 (length ds)) (k .frame) ≡ take 320 ds → Ended (byteOf k cr buf)
+  unfolding keepOf gotOf squeezedOf exchangeOf
+  ends deed kept =
+      let b = brings ds (k .frame) kept in
+      let same = eq-eqb ours ours refl in
+      rw (byte-does k cr buf long, deed, same, b .1, b .0) (record { said = refl; buffer = refl; device = refl; events = refl; address = refl; line = refl })
+
+-- For a frame of 320 places, as every controller has that was made: 01's frame, whatever stood in it and wherever the receiver was.
+module _ (k : Controller) (ds buf : List ℕ) (sized : length (k .frame) ≡ 320) (good : every dataByte ds ≡ true) (long : 32 ≤ length buf) where
+  before : Received
+  before = feed (receiver k) (slash ∷ letterOf (k .address) ∷ ds)
+
+  pub a-whole-frame-is-an-exchange : ToUs k ds buf
+  unfolding feed hears before
+  a-whole-frame-is-an-exchange =
+      let us = letterOf (k .address) in
+      let w = whole-frame us ds (our-letter (k .address)) good (receiver k) sized in
+      let parts = feed-append (receiver k) (slash ∷ us ∷ ds) (cr ∷ []) in
+      let same = frame-kept before cr us (min 321 (length ds)) (w .last) in
+      let kept = ap (λ (f : List ℕ). take (min 320 (length ds)) f) (sym same) ∙ ap (λ (r : Received). take (min 320 (length ds)) (r .frame)) (sym parts) ∙ w .kept in
+      let e = ends (hearing k before) ds buf long (w .last) kept in
+      let silence = given-others k (slash ∷ us ∷ ds) buf long (rw (w .silent) tt) in
+      let count : suc (suc (length ds)) ≡ length ds + 2 = omega arith in
+      rw (given-last k (hearing k before) (slash ∷ us ∷ ds) cr (suc (suc (length ds))) buf silence)
+      (record {
+        said = rw (e .said, ← count);
+        buffer = e .buffer;
+        device = e .device;
+        events = e .events;
+        address = e .address;
+        line = e .line ∙ ap (λ (r : Received). r .line) (sym parts) ∙ w .outside;
+        frame = byte-frame (hearing k before) cr buf long ∙ feed-long (receiver k) (slash ∷ us ∷ ds);
+      })
+
+-- "Any other address: silent." And all bytes that complete no frame to us, noise among them.
+module _ (k : Controller) (buf : List ℕ) (long : 32 ≤ length buf) where
+  pub other-bytes-do-nothing : (bs : List ℕ) → Others (letterOf (k .address)) (framesOf (k .line) bs) → Unheeded k bs buf (givenOf k bs buf)
+  other-bytes-do-nothing bs h =
+      rw (given-others k bs buf long h)
+      (record { said = refl; buffer = refl; device = refl; events = refl; address = refl; frame = feed-long (receiver k) bs })
+
+  pub noise-does-nothing : (bs : List ℕ) → framesOf (k .line) bs ≡ [] → Unheeded k bs buf (givenOf k bs buf)
+  noise-does-nothing bs h = other-bytes-do-nothing bs (rw h tt)
+
+  pub another-address-is-silent :
+      (a : ℕ) (ds : List ℕ) → dataByte a ≡ true → every dataByte ds ≡ true → (a ≡ letterOf (k .address) → ⊥) → Unheeded k (framed a ds) buf (givenOf k (framed a ds) buf)
+  unfolding framesOf
+  another-address-is-silent a ds p q h = other-bytes-do-nothing (framed a ds) (rw (after-noise a ds p q (receiver k) []) (h, tt))

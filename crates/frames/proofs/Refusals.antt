@@ -1,0 +1,285 @@
+-- Theorems over whole frames: each number exactly where 01's table gives it, what it leaves behind, and what is answered.
+use mathlib.Core.Path.{_≡_, refl, sym}
+use mathlib.Core.Logic.{_⊎_, inl, inr}
+use mathlib.Core.Bool.{Bool, true, false, false≢true}
+use mathlib.Core.List.{List}
+use Prim.Native.Nat.{ℕ}
+use native.Mathlib.Omega.{arith}
+use borrow.Author.Tests.{ne-eqb, eq-eqb}
+use lib.Dec.{eqb}
+use lib.ListN.{length}
+use Rattle.basics.specs.Choice.{if_then_else_}
+use Rattle.basics.specs.Lay.{over}
+use Rattle.command.specs.declared.Refusal.the-variants.{Letter, Operand}
+use Rattle.text.specs.declared.Control.{Control}
+use Rattle.text.specs.declared.Control.the-variants.{Run, Stop, Again, Clear, Reset}
+use Rattle.text.specs.declared.Data.{Data}
+use Rattle.text.specs.declared.Data.the-variants as D
+use Rattle.text.specs.Data.{receivedOf}
+use Rattle.line.specs.Answer as Line
+use Rattle.line.specs.Answer.{statusOf}
+use Rattle.motion.specs.Events.{Turn}
+use Rattle.machine.specs.declared.course.State.{State}
+use Rattle.machine.specs.declared.Device.{Device}
+use Rattle.machine.specs.declared.buffer.Action.{Action}
+use Rattle.machine.specs.declared.buffer.Action.the-variants as A
+use Rattle.machine.specs.Run.{readyOf}
+use Rattle.machine.specs.Buffer.{codeOf, storedBy, actedOf}
+use Rattle.machine.specs.Refusals.{answerOf, NothingToRun, run-empty, run-done, again-empty, again-stored, again-stopped, again-delaying, Exactly}
+use Rattle.machine.proofs.Refusals.{nothing-to-run-is-14, busy-or-too-long-is-15, wrong-loops-are-3, no-other-refusal}
+use Rattle.pipettor.specs.declared.address.Address.{Address}
+use Rattle.pipettor.specs.declared.reports.Told.{Told}
+use Rattle.pipettor.specs.declared.reports.Told.the-variants.{Says, No}
+use Rattle.pipettor.specs.declared.acting.Got.the-variants as G
+use Rattle.pipettor.specs.declared.Said.the-variants.{Answer}
+use Rattle.pipettor.specs.Reports.{toldOf}
+use Rattle.pipettor.specs.Byte.{actionOf, stringAction, taskOf, taskCode, taskDone, taskText, outcomeOf, toldCode, saidOf, writtenOf}
+use Rattle.frames.specs.Frame.{Exchange, doesOf, addedOf, exchangeOf}
+use Rattle.frames.specs.Refused.{toldNumber, toldReport, numberFor, refusalOf, isReport, Replied, Refused, Unchanged, Known, WrongLetter, letter, WrongNumber, operand, report, report-number, loops-of-control, loops-of-text, TooMuchNow, too-many-bytes, control, text, NothingNow, nothing}
+
+-- an answered report carries the last error, and one that is refused 3
+module _ (error : ℕ) (ready : Bool) where
+  abbrev told : Told → List ℕ
+  told t = Line.answerOf (statusOf ready (if eqb (toldNumber t) 0 then error else toldNumber t)) (toldReport t)
+
+  told-said : (t : Told) → saidOf (toldCode t error) ready ≡ Answer (length (told t))
+  unfolding saidOf
+  told-said (Says r) = refl
+  told-said No = refl
+
+  told-written : (t : Told) (buf : List ℕ) → writtenOf (toldCode t error) ready buf ≡ over (told t) 0 buf
+  unfolding writtenOf
+  told-written (Says r) buf = refl
+  told-written No buf = refl
+
+-- the buffer never says 2, and 14 never of a string
+never-2 : {G : Type 0} (added : List ℕ) (d : Device) (x : Action) → answerOf x added (d .text) (d .core) ≡ 2 → G
+never-2 {G} added d x e = go (no-other-refusal x added (d .text) (d .core) 2 e)
+  where
+    go : (_≡_ {A = ℕ} 2 0) ⊎ (_≡_ {A = ℕ} 2 3) ⊎ (_≡_ {A = ℕ} 2 14) ⊎ (_≡_ {A = ℕ} 2 15) → G
+    go (inl h) = absurd (omega arith)
+    go (inr (inl h)) = absurd (omega arith)
+    go (inr (inr (inl h))) = absurd (omega arith)
+    go (inr (inr (inr h))) = absurd (omega arith)
+
+abbrev RunOrAgain : Action → Type 0
+RunOrAgain A.Run = Unit {0}
+RunOrAgain A.Again = Unit {0}
+RunOrAgain A.Store = ⊥
+RunOrAgain A.Launch = ⊥
+RunOrAgain A.Stop = ⊥
+RunOrAgain A.Clear = ⊥
+RunOrAgain A.Reset = ⊥
+
+run-or-again : (x : Action) (s : State) → NothingToRun x s → RunOrAgain x
+run-or-again x s run-empty = tt
+run-or-again x s run-done = tt
+run-or-again x s again-empty = tt
+run-or-again x s again-stored = tt
+run-or-again x s again-stopped = tt
+run-or-again x s (again-delaying k) = tt
+
+no-string : (run : Bool) (s : State) → NothingToRun (stringAction run) s → ⊥
+no-string true s h = run-or-again A.Launch s h
+no-string false s h = run-or-again A.Store s h
+
+-- a report answers 0 or 3
+not-told : {G : Type 0} (n : ℕ) (t : Told) → toldNumber t ≡ n → (n ≡ 0 → ⊥) → (n ≡ 3 → ⊥) → G
+not-told n (Says r) e p q = absurd (p (sym e))
+not-told n No e p q = absurd (q (sym e))
+
+refused-3 : (t : Told) → toldNumber t ≡ 3 → t ≡ No
+refused-3 (Says r) e = absurd (omega arith)
+refused-3 No e = refl
+
+-- no other number than 01's
+known-told : (t : Told) → Known (toldNumber t)
+known-told (Says r) = inl refl
+known-told No = inr (inr (inl refl))
+
+known-buffer : (n : ℕ) → (n ≡ 0) ⊎ (n ≡ 3) ⊎ (n ≡ 14) ⊎ (n ≡ 15) → Known n
+known-buffer n (inl h) = inl h
+known-buffer n (inr h) = inr (inr h)
+
+-- over any data, with the characters that come with them
+module _ (added : List ℕ) (a : Address) (d : Device) where
+  abbrev number : Data → ℕ
+  number x = numberFor x added a d
+
+  module _ (buf : List ℕ) where
+    abbrev does : Data → Turn Exchange
+    does x = doesOf (G.Data x) added a d buf
+
+    replied : (x : Data) → Replied x (number x) a d buf (does x)
+    unfolding doesOf numberFor taskOf taskCode taskDone taskText codeOf outcomeOf saidOf writtenOf
+    replied (D.Report q) = record {
+      said = told-said (d .core .course .error) (readyOf (d .core)) (toldOf q a (d .core));
+      buffer = told-written (d .core .course .error) (readyOf (d .core)) (toldOf q a (d .core)) buf;
+    }
+    replied D.WrongReport = record { said = refl; buffer = refl }
+    replied (D.Control c) = record { said = refl; buffer = refl }
+    replied (D.Text n run) = record { said = refl; buffer = refl }
+    replied (D.Wrong r) = record { said = refl; buffer = refl }
+    replied D.TooLong = record { said = refl; buffer = refl }
+
+    -- what is left behind
+    left : (x : Data) → (number x ≡ 0 → ⊥) → Refused x (number x) d (does x)
+    unfolding doesOf numberFor taskOf taskCode taskDone taskText codeOf actedOf storedBy
+    left (D.Report q) h = record { text = refl; core = refl; events = refl }
+    left D.WrongReport h = record { text = refl; core = refl; events = refl }
+    left (D.Control c) h =
+        let z = ne-eqb (answerOf (actionOf c) added (d .text) (d .core)) 0 h in
+        record { text = rw z; core = rw z; events = rw z }
+    left (D.Text n run) h =
+        let z = ne-eqb (answerOf (stringAction run) added (d .text) (d .core)) 0 h in
+        record { text = rw z; core = rw z; events = rw z }
+    left (D.Wrong (Letter place)) h = record { text = refl; core = refl; events = refl }
+    left (D.Wrong (Operand place)) h = record { text = refl; core = refl; events = refl }
+    left D.TooLong h = record { text = refl; core = refl; events = refl }
+
+    untouched : (x : Data) → isReport x ≡ true → Unchanged d (does x)
+    unfolding doesOf taskOf taskDone taskText
+    untouched (D.Report q) h = record { device = refl; events = refl }
+    untouched D.WrongReport h = record { device = refl; events = refl }
+    untouched (D.Control c) h = absurd (false≢true h)
+    untouched (D.Text n run) h = absurd (false≢true h)
+    untouched (D.Wrong r) h = absurd (false≢true h)
+    untouched D.TooLong h = absurd (false≢true h)
+
+    cleared : (x : Data) → isReport x ≡ false → number x ≡ 0 → does x .next .device .core .course .error ≡ 0
+    unfolding doesOf numberFor taskOf taskCode taskDone codeOf actedOf
+    cleared (D.Report q) h e = absurd (false≢true (sym h))
+    cleared D.WrongReport h e = absurd (false≢true (sym h))
+    cleared (D.Control c) h e = rw (eq-eqb (answerOf (actionOf c) added (d .text) (d .core)) 0 e)
+    cleared (D.Text n run) h e = rw (eq-eqb (answerOf (stringAction run) added (d .text) (d .core)) 0 e)
+    cleared (D.Wrong (Letter place)) h e = absurd (omega arith)
+    cleared (D.Wrong (Operand place)) h e = absurd (omega arith)
+    cleared D.TooLong h e = absurd (omega arith)
+
+  -- which number
+  only-2 : (x : Data) → number x ≡ 2 → WrongLetter x
+  unfolding numberFor
+  only-2 (D.Report q) e = not-told 2 (toldOf q a (d .core)) e (λ h. omega arith) (λ h. omega arith)
+  only-2 D.WrongReport e = absurd (omega arith)
+  only-2 (D.Control c) e = never-2 added d (actionOf c) e
+  only-2 (D.Text n run) e = never-2 added d (stringAction run) e
+  only-2 (D.Wrong (Letter place)) e = letter place
+  only-2 (D.Wrong (Operand place)) e = absurd (omega arith)
+  only-2 D.TooLong e = absurd (omega arith)
+
+  always-2 : (x : Data) → WrongLetter x → number x ≡ 2
+  unfolding numberFor
+  always-2 x (letter place) = refl
+
+  only-3 : (x : Data) → number x ≡ 3 → WrongNumber a d added x
+  unfolding numberFor
+  only-3 (D.Report q) e = report-number q (refused-3 (toldOf q a (d .core)) e)
+  only-3 D.WrongReport e = report
+  only-3 (D.Control c) e = loops-of-control c (wrong-loops-are-3 (actionOf c) added (d .text) (d .core) .only e)
+  only-3 (D.Text n run) e = loops-of-text n run (wrong-loops-are-3 (stringAction run) added (d .text) (d .core) .only e)
+  only-3 (D.Wrong (Letter place)) e = absurd (omega arith)
+  only-3 (D.Wrong (Operand place)) e = operand place
+  only-3 D.TooLong e = absurd (omega arith)
+
+  always-3 : (x : Data) → WrongNumber a d added x → number x ≡ 3
+  unfolding numberFor
+  always-3 x (operand place) = refl
+  always-3 x report = refl
+  always-3 x (report-number q h) = rw h
+  always-3 x (loops-of-control c h) = wrong-loops-are-3 (actionOf c) added (d .text) (d .core) .always h
+  always-3 x (loops-of-text n run h) = wrong-loops-are-3 (stringAction run) added (d .text) (d .core) .always h
+
+  only-14 : (x : Data) → number x ≡ 14 → NothingNow (d .core .course .state) x
+  unfolding numberFor
+  only-14 (D.Report q) e = not-told 14 (toldOf q a (d .core)) e (λ h. omega arith) (λ h. omega arith)
+  only-14 D.WrongReport e = absurd (omega arith)
+  only-14 (D.Control c) e = nothing c (nothing-to-run-is-14 (actionOf c) added (d .text) (d .core) .only e)
+  only-14 (D.Text n run) e = absurd (no-string run (d .core .course .state) (nothing-to-run-is-14 (stringAction run) added (d .text) (d .core) .only e))
+  only-14 (D.Wrong (Letter place)) e = absurd (omega arith)
+  only-14 (D.Wrong (Operand place)) e = absurd (omega arith)
+  only-14 D.TooLong e = absurd (omega arith)
+
+  always-14 : (x : Data) → NothingNow (d .core .course .state) x → number x ≡ 14
+  unfolding numberFor
+  always-14 x (nothing c h) = nothing-to-run-is-14 (actionOf c) added (d .text) (d .core) .always h
+
+  only-15 : (x : Data) → number x ≡ 15 → TooMuchNow a d added x
+  unfolding numberFor
+  only-15 (D.Report q) e = not-told 15 (toldOf q a (d .core)) e (λ h. omega arith) (λ h. omega arith)
+  only-15 D.WrongReport e = absurd (omega arith)
+  only-15 (D.Control c) e = control c (busy-or-too-long-is-15 (actionOf c) added (d .text) (d .core) .only e)
+  only-15 (D.Text n run) e = text n run (busy-or-too-long-is-15 (stringAction run) added (d .text) (d .core) .only e)
+  only-15 (D.Wrong (Letter place)) e = absurd (omega arith)
+  only-15 (D.Wrong (Operand place)) e = absurd (omega arith)
+  only-15 D.TooLong e = too-many-bytes
+
+  always-15 : (x : Data) → TooMuchNow a d added x → number x ≡ 15
+  unfolding numberFor
+  always-15 x too-many-bytes = refl
+  always-15 x (control c h) = busy-or-too-long-is-15 (actionOf c) added (d .text) (d .core) .always h
+  always-15 x (text n run h) = busy-or-too-long-is-15 (stringAction run) added (d .text) (d .core) .always h
+
+  known : (x : Data) → Known (number x)
+  unfolding numberFor
+  known (D.Report q) = known-told (toldOf q a (d .core))
+  known D.WrongReport = inr (inr (inl refl))
+  known (D.Control c) = known-buffer _ (no-other-refusal (actionOf c) added (d .text) (d .core) _ refl)
+  known (D.Text n run) = known-buffer _ (no-other-refusal (stringAction run) added (d .text) (d .core) _ refl)
+  known (D.Wrong (Letter place)) = inr (inl refl)
+  known (D.Wrong (Operand place)) = inr (inr (inl refl))
+  known D.TooLong = inr (inr (inr (inr refl)))
+
+-- A frame to us with these data.
+module _ (ds : List ℕ) (a : Address) (d : Device) where
+  -- 2, 3, 14 and 15, each exactly where the table says
+  pub a-wrong-letter-is-2 : Exactly (refusalOf ds a d ≡ 2) (WrongLetter (receivedOf ds))
+  unfolding refusalOf
+  a-wrong-letter-is-2 = record { only = only-2 (addedOf ds) a d (receivedOf ds); always = always-2 (addedOf ds) a d (receivedOf ds) }
+
+  pub a-wrong-number-is-3 : Exactly (refusalOf ds a d ≡ 3) (WrongNumber a d (addedOf ds) (receivedOf ds))
+  unfolding refusalOf
+  a-wrong-number-is-3 = record { only = only-3 (addedOf ds) a d (receivedOf ds); always = always-3 (addedOf ds) a d (receivedOf ds) }
+
+  pub nothing-to-run-now-is-14 : Exactly (refusalOf ds a d ≡ 14) (NothingNow (d .core .course .state) (receivedOf ds))
+  unfolding refusalOf
+  nothing-to-run-now-is-14 = record { only = only-14 (addedOf ds) a d (receivedOf ds); always = always-14 (addedOf ds) a d (receivedOf ds) }
+
+  pub too-much-now-is-15 : Exactly (refusalOf ds a d ≡ 15) (TooMuchNow a d (addedOf ds) (receivedOf ds))
+  unfolding refusalOf
+  too-much-now-is-15 = record { only = only-15 (addedOf ds) a d (receivedOf ds); always = always-15 (addedOf ds) a d (receivedOf ds) }
+
+  pub no-other-number : Known (refusalOf ds a d)
+  unfolding refusalOf
+  no-other-number = known (addedOf ds) a d (receivedOf ds)
+
+  -- "7: A, P or D taken while not initialised": in a run, and never at load
+  pub never-7-at-load : refusalOf ds a d ≡ 7 → ⊥
+  never-7-at-load e = go no-other-number
+    where
+      go : Known (refusalOf ds a d) → ⊥
+      go (inl h) = omega arith
+      go (inr (inl h)) = omega arith
+      go (inr (inr (inl h))) = omega arith
+      go (inr (inr (inr (inl h)))) = omega arith
+      go (inr (inr (inr (inr h)))) = omega arith
+
+  module _ (buf : List ℕ) where
+    -- every frame is answered, with its status: the last error, 0 or its own number
+    pub every-frame-is-answered : Replied (receivedOf ds) (refusalOf ds a d) a d buf (exchangeOf ds a d buf)
+    unfolding refusalOf exchangeOf
+    every-frame-is-answered = replied (addedOf ds) a d buf (receivedOf ds)
+
+    -- a refusal leaves the last error only, and a refused report nothing
+    pub a-refused-frame-leaves-the-error-only : (refusalOf ds a d ≡ 0 → ⊥) → Refused (receivedOf ds) (refusalOf ds a d) d (exchangeOf ds a d buf)
+    unfolding refusalOf exchangeOf
+    a-refused-frame-leaves-the-error-only = left (addedOf ds) a d buf (receivedOf ds)
+
+    -- "An accepted frame that isn't a report sets it to 0"
+    pub an-accepted-frame-clears-the-error : isReport (receivedOf ds) ≡ false → refusalOf ds a d ≡ 0 → exchangeOf ds a d buf .next .device .core .course .error ≡ 0
+    unfolding refusalOf exchangeOf
+    an-accepted-frame-clears-the-error = cleared (addedOf ds) a d buf (receivedOf ds)
+
+    -- "Reports never change it"
+    pub reports-leave-everything : isReport (receivedOf ds) ≡ true → Unchanged d (exchangeOf ds a d buf)
+    unfolding exchangeOf
+    reports-leave-everything = untouched (addedOf ds) a d buf (receivedOf ds)

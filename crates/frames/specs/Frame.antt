@@ -1,0 +1,96 @@
+-- A whole frame with the receiver gone: what its data do and what is answered; and bytes given one after the other.
+use Prim.Native.Nat.{ℕ, _+_}
+use mathlib.Core.Path.{_≡_}
+use mathlib.Core.List.{List, [], _∷_, _++_}
+use lib.ListN.{length, take, replicate}
+use Rattle.text.specs.declared.Data.{Data}
+use Rattle.text.specs.Data.{spaceless, receivedOf}
+use Rattle.line.specs.declared.Deed.{Deed}
+use Rattle.line.specs.declared.Deed.the-variants as W
+use Rattle.line.specs.declared.Line.the-variants.{Outside}
+use Rattle.line.specs.Wire.{framed}
+use Rattle.motion.specs.Events.{Event, Turn}
+use Rattle.machine.specs.declared.Device.{Device}
+use Rattle.machine.specs.Run.{readyOf}
+use Rattle.machine.specs.Device.{device}
+use Rattle.pipettor.specs.declared.address.Address.{Address}
+use Rattle.pipettor.specs.declared.acting.Got.{Got}
+use Rattle.pipettor.specs.declared.acting.Got.the-variants as G
+use Rattle.pipettor.specs.declared.Controller.{Controller}
+use Rattle.pipettor.specs.declared.Said.{Said}
+use Rattle.pipettor.specs.declared.Said.the-variants.{Silent}
+use Rattle.pipettor.specs.Address.{letterOf}
+use Rattle.pipettor.specs.Byte.{taskOf, sizeOf, taskCode, taskDone, taskText, outcomeOf, saidOf, writtenOf, byteOf}
+
+-- what is left of a frame: the device, what was said, and the answer buffer
+pub record Exchange : Type 0 where
+  pub device : Device
+  pub said : Said
+  pub buffer : List ℕ
+
+-- what was brought, with the characters that come with it, does to a device; "Ready or busy is taken after the frame has acted."
+unfoldable pub doesOf : Got → List ℕ → Address → Device → List ℕ → Turn Exchange
+doesOf got added a d buf =
+    let c = d .core in
+    let task = taskOf got (c .course .state) in
+    let code = taskCode task (take (c .course .len) (d .text)) added in
+    let turn = taskDone task code (sizeOf got) c in
+    let text = taskText task code (c .course .len) added (d .text) in
+    let outcome = outcomeOf got a code c in
+    let ready = readyOf (turn .next) in
+    record { next = record { device = device text (turn .next); said = saidOf outcome ready; buffer = writtenOf outcome ready buf }; events = turn .events }
+
+-- the characters that come with data: "without spaces and the final R"
+unfoldable pub addedOf : List ℕ → List ℕ
+addedOf ds = take (sizeOf (G.Data (receivedOf ds))) (spaceless ds)
+
+-- a whole frame to us with these data
+unfoldable pub exchangeOf : List ℕ → Address → Device → List ℕ → Turn Exchange
+exchangeOf ds a d buf = doesOf (G.Data (receivedOf ds)) (addedOf ds) a d buf
+
+-- bytes given one after the other: the controller afterwards, what each byte was answered, the buffer lent, and the history
+pub record Dialogue : Type 0 where
+  pub controller : Controller
+  pub said : List Said
+  pub buffer : List ℕ
+  pub events : List Event
+
+-- first to last, the same buffer lent for each
+unfoldable pub givenOf : Controller → List ℕ → List ℕ → Dialogue
+givenOf k [] buf = record { controller = k; said = []; buffer = buf; events = [] }
+givenOf k (b ∷ bs) buf =
+    let t = byteOf k b buf in
+    let later = givenOf (t .next .reply .controller) bs (t .next .buffer) in
+    record { controller = later .controller; said = t .next .reply .said ∷ later .said; buffer = later .buffer; events = t .events ++ later .events }
+
+-- The bytes of a frame to us: silence before the last, and then what the exchange says. The receiver is outside a frame again.
+pub record Exchanged (k : Controller) (ds : List ℕ) (g : Dialogue) (e : Turn Exchange) : Type 0 where
+  pub said : g .said ≡ replicate (length ds + 2) Silent ++ (e .next .said ∷ [])
+  pub buffer : g .buffer ≡ e .next .buffer
+  pub device : g .controller .device ≡ e .next .device
+  pub events : g .events ≡ e .events
+  pub address : g .controller .address ≡ k .address
+  pub line : g .controller .line ≡ Outside
+  pub frame : length (g .controller .frame) ≡ length (k .frame)
+
+abbrev pub ToUs : Controller → List ℕ → List ℕ → Type 0
+ToUs k ds buf = Exchanged k ds (givenOf k (framed (letterOf (k .address)) ds) buf) (exchangeOf ds (k .address) (k .device) buf)
+
+-- Bytes that are answered with silence and leave the device, the buffer and the history alone.
+pub record Unheeded (k : Controller) (bs buf : List ℕ) (g : Dialogue) : Type 0 where
+  pub said : g .said ≡ replicate (length bs) Silent
+  pub buffer : g .buffer ≡ buf
+  pub device : g .controller .device ≡ k .device
+  pub events : g .events ≡ []
+  pub address : g .controller .address ≡ k .address
+  pub frame : length (g .controller .frame) ≡ length (k .frame)
+
+-- a deed that completes no frame to us
+abbrev pub Other : ℕ → Deed → Type 0
+Other ours W.Nothing = Unit {0}
+Other ours (W.Keep at) = Unit {0}
+Other ours (W.Frame a n) = a ≡ ours → ⊥
+
+abbrev pub Others : ℕ → List Deed → Type 0
+Others ours [] = Unit {0}
+Others ours (d ∷ ds) = Other ours d × Others ours ds

@@ -1,0 +1,4 @@
+pub mod Frame
+pub mod Refused
+pub mod Limits
+pub mod Listening

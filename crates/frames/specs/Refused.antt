@@ -1,0 +1,137 @@
+-- 01, "Numbers that come back": the number each frame to us gets, and where it gets it.
+use Prim.Native.Nat.{ℕ}
+use mathlib.Core.Path.{_≡_}
+use mathlib.Core.Logic.{_⊎_}
+use mathlib.Core.Bool.{Bool, true, false, _&&_, _||_}
+use mathlib.Core.List.{List, [], _∷_}
+use lib.Dec.{eqb}
+use lib.ListN.{length, take}
+use Rattle.basics.specs.Choice.{if_then_else_}
+use Rattle.basics.specs.Lay.{over}
+use Rattle.command.specs.declared.Refusal.the-variants.{Letter, Operand}
+use Rattle.command.specs.Command.{refusalNumber}
+use Rattle.text.specs.declared.Question.{Question}
+use Rattle.text.specs.declared.Control.{Control}
+use Rattle.text.specs.declared.Data.{Data}
+use Rattle.text.specs.declared.Data.the-variants as D
+use Rattle.text.specs.Data.{receivedOf}
+use Rattle.line.specs.declared.Report.{Report}
+use Rattle.line.specs.declared.Report.the-variants.{Nothing}
+use Rattle.line.specs.Answer.{statusOf, answerOf}
+use Rattle.motion.specs.Events.{Turn}
+use Rattle.machine.specs.declared.course.State.{State}
+use Rattle.machine.specs.declared.step.Core.{Core}
+use Rattle.machine.specs.declared.Device.{Device}
+use Rattle.machine.specs.Run.{readyOf}
+use Rattle.machine.specs.Buffer.{coreError}
+use Rattle.machine.specs.Refusals as Buffer
+use Rattle.machine.specs.Refusals.{NothingToRun, TooMuch, WrongLoops}
+use Rattle.pipettor.specs.declared.address.Address.{Address}
+use Rattle.pipettor.specs.declared.reports.Told.{Told}
+use Rattle.pipettor.specs.declared.reports.Told.the-variants.{Says, No}
+use Rattle.pipettor.specs.declared.Said.the-variants.{Answer}
+use Rattle.pipettor.specs.Reports.{toldOf}
+use Rattle.pipettor.specs.Byte.{actionOf, stringAction}
+use Rattle.frames.specs.Frame.{Exchange, addedOf}
+
+-- "Reports never change it; a refused report answers its own code 3 and changes nothing."
+abbrev pub toldNumber : Told → ℕ
+toldNumber (Says report) = 0
+toldNumber No = 3
+
+-- 0 where data are accepted, and else the number they are refused with: too many (15), the first wrong place (2 or 3), then what the buffer says
+unfoldable pub numberFor : Data → List ℕ → Address → Device → ℕ
+numberFor D.TooLong added a d = 15
+numberFor (D.Wrong r) added a d = refusalNumber r
+numberFor D.WrongReport added a d = 3
+numberFor (D.Report q) added a d = toldNumber (toldOf q a (d .core))
+numberFor (D.Control c) added a d = Buffer.answerOf (actionOf c) added (d .text) (d .core)
+numberFor (D.Text n run) added a d = Buffer.answerOf (stringAction run) added (d .text) (d .core)
+
+-- of a frame to us
+unfoldable pub refusalOf : List ℕ → Address → Device → ℕ
+refusalOf ds a d = numberFor (receivedOf ds) (addedOf ds) a d
+
+-- the numbers a frame can get: 7 comes in a run only
+abbrev pub Known : ℕ → Type 0
+Known n = (n ≡ 0) ⊎ (n ≡ 2) ⊎ (n ≡ 3) ⊎ (n ≡ 14) ⊎ (n ≡ 15)
+
+-- a report, answered or refused: "Over 320 bytes no frame counts as a report."
+abbrev pub isReport : Data → Bool
+isReport (D.Report q) = true
+isReport D.WrongReport = true
+isReport (D.Control c) = false
+isReport (D.Text n run) = false
+isReport (D.Wrong r) = false
+isReport D.TooLong = false
+
+-- "Empty data acts as Q. Q, ? or f first: a report."
+abbrev pub reportFirst : List ℕ → Bool
+reportFirst [] = true
+reportFirst (b ∷ t) = eqb b 81 || eqb b 63 || eqb b 102
+
+-- what is reported: nothing but in an accepted report
+abbrev pub toldReport : Told → Report
+toldReport (Says report) = report
+toldReport No = Nothing
+
+abbrev pub reportIn : Data → Address → Core → Report
+reportIn (D.Report q) a c = toldReport (toldOf q a c)
+reportIn D.WrongReport a c = Nothing
+reportIn (D.Control k) a c = Nothing
+reportIn (D.Text n run) a c = Nothing
+reportIn (D.Wrong r) a c = Nothing
+reportIn D.TooLong a c = Nothing
+
+-- the code in the status byte: an accepted report's is the last error, an accepted other frame's 0, a refused frame's its own number
+abbrev pub statusCode : Data → ℕ → ℕ → ℕ
+statusCode x number error = if isReport x && eqb number 0 then error else number
+
+-- "Answer: `/`, `0`, status byte, data, 03h, CR, LF." "Ready or busy is taken after the frame has acted."
+abbrev pub answerTo : Data → ℕ → Address → Core → Core → List ℕ
+answerTo x number a before after = answerOf (statusOf (readyOf after) (statusCode x number (before .course .error))) (reportIn x a before)
+
+-- Every frame to us is answered so; "Bytes after an answer's end stay as they were."
+pub record Replied (x : Data) (number : ℕ) (a : Address) (d : Device) (buf : List ℕ) (e : Turn Exchange) : Type 0 where
+  pub said : e .next .said ≡ Answer (length (answerTo x number a (d .core) (e .next .device .core)))
+  pub buffer : e .next .buffer ≡ over (answerTo x number a (d .core) (e .next .device .core)) 0 buf
+
+-- "Left behind: last error only"; a refused report "changes nothing"
+abbrev pub refusedCore : Data → ℕ → Core → Core
+refusedCore x number c = if isReport x then c else coreError number c
+
+pub record Refused (x : Data) (number : ℕ) (d : Device) (e : Turn Exchange) : Type 0 where
+  pub text : e .next .device .text ≡ d .text
+  pub core : e .next .device .core ≡ refusedCore x number (d .core)
+  pub events : e .events ≡ []
+
+-- a report, refused or not
+pub record Unchanged (d : Device) (e : Turn Exchange) : Type 0 where
+  pub device : e .next .device ≡ d
+  pub events : e .events ≡ []
+
+-- 2: "command letter not allowed here": the first wrong place is a letter
+pub data WrongLetter : Data → Type 0 where
+  letter : (place : ℕ) → WrongLetter (D.Wrong (Letter place))
+
+module _ (a : Address) (d : Device) (added : List ℕ) where
+  abbrev pub stored : List ℕ
+  stored = take (d .core .course .len) (d .text)
+
+  -- 3: "operand, report number or loops wrong"
+  pub data WrongNumber : Data → Type 0 where
+    operand : (place : ℕ) → WrongNumber (D.Wrong (Operand place))
+    report : WrongNumber D.WrongReport
+    report-number : (q : Question) → toldOf q a (d .core) ≡ No → WrongNumber (D.Report q)
+    loops-of-control : (c : Control) → WrongLoops (actionOf c) (d .core .course .state) stored added → WrongNumber (D.Control c)
+    loops-of-text : (n : ℕ) (run : Bool) → WrongLoops (stringAction run) (d .core .course .state) stored added → WrongNumber (D.Text n run)
+
+  -- 15: "data or text too long, or busy"
+  pub data TooMuchNow : Data → Type 0 where
+    too-many-bytes : TooMuchNow D.TooLong
+    control : (c : Control) → TooMuch (actionOf c) (d .core .course .state) stored added → TooMuchNow (D.Control c)
+    text : (n : ℕ) (run : Bool) → TooMuch (stringAction run) (d .core .course .state) stored added → TooMuchNow (D.Text n run)
+
+-- 14: "R or X with nothing to run"
+pub data NothingNow (s : State) : Data → Type 0 where
+  nothing : (c : Control) → NothingToRun (actionOf c) s → NothingNow s (D.Control c)

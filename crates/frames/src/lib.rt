@@ -1,0 +1,1 @@
+// Theorems over the definitions of the pipettor: this crate has no code.

@@ -1,0 +1,46 @@
+-- A movement's ticks before the one in which it arrives, passed over at once. That a tick after them is so many ticks is a theorem of proofs/Skipping.
+use Prim.Native.Nat.{ℕ, _+_, _-_, _≤_, min}
+use mathlib.Core.Path.{_≡_}
+use mathlib.Core.List.{List}
+use Rattle.motion.specs.declared.Travel.{Travel}
+use Rattle.motion.specs.declared.Activity.{Activity}
+use Rattle.motion.specs.declared.Activity.the-variants.{Initialising, Moving, Delaying, Between}
+use Rattle.machine.specs.declared.course.State.{State}
+use Rattle.machine.specs.declared.course.State.the-variants.{Empty, Stored, Running, Stopped, Done}
+use Rattle.machine.specs.declared.step.Core.{Core}
+use Rattle.machine.specs.declared.step.Ticked.{Ticked}
+use Rattle.machine.specs.Course.{inState}
+use Rattle.machine.specs.Step.{core, stepOf}
+use Rattle.machine.specs.Movement.{timeOf, since}
+
+-- of so many ticks, those before the one in which a movement arrives
+unfoldable pub spareOf : Travel → ℕ → ℕ
+spareOf t most = min most (timeOf t - (t .ticks + 1))
+
+pub record Spare (t : Travel) (most r : ℕ) : Type 0 where
+  pub spare : r ≡ spareOf t most
+  pub small : t .ticks + r ≤ 44000
+
+abbrev pub ticked : Core → ℕ → Ticked
+ticked c n = record { core = c; used = n }
+
+-- so many ticks passed over: what is in progress has counted them
+abbrev pub passedBy : Activity → ℕ → Core → Ticked
+passedBy a n c = ticked (core (c .body) (inState (Running a) (c .course))) n
+
+unfoldable pub skippedIn : State → ℕ → Core → Ticked
+skippedIn (Running (Initialising t)) most c = let n = spareOf t most in passedBy (Initialising (since t (t .ticks + n))) n c
+skippedIn (Running (Moving t)) most c = let n = spareOf t most in passedBy (Moving (since t (t .ticks + n))) n c
+skippedIn (Running (Delaying k)) most c = ticked c 0
+skippedIn (Running Between) most c = ticked c 0
+skippedIn Empty most c = ticked c 0
+skippedIn Stored most c = ticked c 0
+skippedIn Stopped most c = ticked c 0
+skippedIn Done most c = ticked c 0
+
+unfoldable pub skippedOf : ℕ → Core → Ticked
+skippedOf most c = skippedIn (c .course .state) most c
+
+-- the ticks passed over, of so many, and the next tick
+unfoldable pub leaptOf : ℕ → List ℕ → Core → Ticked
+leaptOf most text c = let s = skippedOf most c in ticked (stepOf text (s .core) .next) (s .used + 1)
