@@ -1,2 +1,3 @@
-pub mod Lines
 pub mod Forms
+pub mod Serving
+pub mod Lines

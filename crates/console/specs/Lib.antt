@@ -1,2 +1,3 @@
-pub mod Eaten
 pub mod Forms
+pub mod Serve
+pub mod Eaten

@@ -1,12 +1,16 @@
 // The bench program: lines in, lines out, as soon as each is complete. Only reading and writing stay outside what is proved.
+use basics::Put;
 use desk::Asked;
 use pipettor::Controller;
 use pipettor::Said;
 use pipettor::address::Address;
-ghost use Prim.Native.Nat.{_≤_};
-ghost use lib.ListN.{length};
+ghost use mathlib.Core.Path.{_≡_};
+ghost use Prim.Native.Nat.{_-_, _≤_};
+ghost use lib.ListN.{length, take, drop};
 ghost use Rattle.pipettor.specs.Held.{Held};
-ghost use Rattle.console.specs.Eaten.{Fed, Rest};
+ghost use Rattle.pipettor.specs.Controller.{advancedOf};
+ghost use Rattle.console.specs.Serve.{fedOf, endedOf, servedOf, Left};
+ghost use Rattle.console.specs.Eaten.{eatenOf, endedLine, Gathers, Eats, Served};
 
 // A controller, and how many bytes are kept of the line that isn't complete yet.
 pub struct Eaten {
@@ -38,7 +42,7 @@ fn print(said: Said, answer: &[u8]) {
 // `/` and the text: no frame ends here, and nothing is answered.
 fn feed(c: Controller, text: &[u8]) -> Controller
     requires { ⌜ Held c ⌝ }
-    ensures { λ r. ⌜ Held r ⌝ }
+    ensures { λ r. ⌜ Left (fedOf (now (text .entry)) c) r ⌝ }
 {
     let started = c.listen(b"/");
     let begun = started.controller;
@@ -49,7 +53,7 @@ fn feed(c: Controller, text: &[u8]) -> Controller
 // The CR, and what is answered.
 fn ask(c: Controller) -> Controller
     requires { ⌜ Held c ⌝ }
-    ensures { λ r. ⌜ Held r ⌝ }
+    ensures { λ r. ⌜ Left (endedOf c) r ⌝ }
 {
     let mut buf = [0u8; 32];
     let last = c.byte(13, &mut buf);
@@ -61,7 +65,7 @@ fn ask(c: Controller) -> Controller
 // "sends `/`, the text, CR"
 fn send(c: Controller, text: &[u8]) -> Controller
     requires { ⌜ Held c ⌝ }
-    ensures { λ r. ⌜ Held r ⌝ }
+    ensures { λ r. ⌜ Left (endedOf (fedOf (now (text .entry)) c)) r ⌝ }
 {
     let fed = feed(c, text);
     ask(fed)
@@ -77,7 +81,7 @@ fn place(plunger: u32, exact: u64) {
 
 fn wait(c: Controller, n: u32) -> Controller
     requires { ⌜ Held c ⌝ }
-    ensures { λ r. ⌜ Held r ⌝ }
+    ensures { λ r. ⌜ Left (advancedOf n c) r ⌝ }
 {
     let later = c.advance(n);
     let device = later.device;
@@ -90,7 +94,7 @@ fn wait(c: Controller, n: u32) -> Controller
 // A complete line.
 fn answer(c: Controller, line: &[u8]) -> Controller
     requires { ⌜ Held c ⌝ }
-    ensures { λ r. ⌜ Held r ⌝ }
+    ensures { λ r. ⌜ Left (servedOf (now (line .entry)) c) r ⌝ }
 {
     let asked = desk::read(line);
     match asked {
@@ -109,38 +113,26 @@ fn answer(c: Controller, line: &[u8]) -> Controller
 }
 
 // Bytes are kept behind those of a line kept before, as far as its array goes: 401 tell a line that is too long.
-fn collect(line: &mut [u8], kept: usize, bytes: &[u8]) -> usize
-    requires { ⌜ kept ≤ length (now line) ⌝ }
-    ensures { λ r. ⌜ Fed r (now (line .entry)) (now (line .exit)) ⌝ }
-{
-    let mut n = kept;
-    let mut i = 0;
-    while i < bytes.len() {
-        if n < line.len() {
-            line[n] = bytes[i];
-            n += 1;
-            i += 1;
-        } else {
-            return n;
-        }
-    }
-    n
-}
-
 fn gather(line: &mut [u8], kept: usize, chunk: &[u8], start: usize, end: usize) -> usize
-    requires { ⌜ kept ≤ length (now line) ⌝ }
+    requires { ⌜ length (now line) ≡ 401 ⌝ }
+    requires { ⌜ kept ≤ 401 ⌝ }
     requires { ⌜ start ≤ end ⌝ }
     requires { ⌜ end ≤ length (now chunk) ⌝ }
-    ensures { λ r. ⌜ Fed r (now (line .entry)) (now (line .exit)) ⌝ }
+    ensures { λ r. ⌜ Gathers (take (end - start) (drop start (now (chunk .entry)))) kept (now (line .entry)) r (now (line .exit)) ⌝ }
 {
-    collect(line, kept, &chunk[start..end])
+    let put = basics::lay(&chunk[start..end], line, kept);
+    match put {
+        Put::Bytes(m) => kept + m,
+        Put::NoRoom => 401,
+    }
 }
 
 // A line that has ended is answered, and nothing of it is kept.
 fn finish(c: Controller, line: &[u8], n: usize, ended: bool) -> Eaten
     requires { ⌜ Held c ⌝ }
-    requires { ⌜ n ≤ length (now line) ⌝ }
-    ensures { λ r. ⌜ Rest (r .controller) (r .n) (now (line .entry)) (now (line .entry)) ⌝ }
+    requires { ⌜ length (now line) ≡ 401 ⌝ }
+    requires { ⌜ n ≤ 401 ⌝ }
+    ensures { λ r. ⌜ Eats (endedLine ended) c n (now (line .entry)) (r .controller) (r .n) (now (line .entry)) ⌝ }
 {
     if ended {
         let later = answer(c, &line[..n]);
@@ -155,8 +147,9 @@ fn finish(c: Controller, line: &[u8], n: usize, ended: bool) -> Eaten
 // A chunk of the input, line by line.
 fn eat(start: Controller, line: &mut [u8], kept: usize, chunk: &[u8]) -> Eaten
     requires { ⌜ Held start ⌝ }
-    requires { ⌜ kept ≤ length (now line) ⌝ }
-    ensures { λ r. ⌜ Rest (r .controller) (r .n) (now (line .entry)) (now (line .exit)) ⌝ }
+    requires { ⌜ length (now line) ≡ 401 ⌝ }
+    requires { ⌜ kept ≤ 401 ⌝ }
+    ensures { λ r. ⌜ Eats (eatenOf (now (chunk .entry))) start kept (now (line .entry)) (r .controller) (r .n) (now (line .exit)) ⌝ }
 {
     let mut c = start;
     let mut n = kept;
@@ -175,8 +168,9 @@ fn eat(start: Controller, line: &mut [u8], kept: usize, chunk: &[u8]) -> Eaten
 // The next chunk of the input; none is its end.
 fn read_chunk(c: Controller, line: &mut [u8], kept: usize) -> Round
     requires { ⌜ Held c ⌝ }
-    requires { ⌜ kept ≤ length (now line) ⌝ }
-    ensures { λ r. ⌜ Rest (r .controller) (r .n) (now (line .entry)) (now (line .exit)) ⌝ }
+    requires { ⌜ length (now line) ≡ 401 ⌝ }
+    requires { ⌜ kept ≤ 401 ⌝ }
+    ensures { λ r. ⌜ Served (r .controller) (r .n) (now (line .exit)) ⌝ }
 {
     let mut chunk = [0u8; 4096];
     let got = libc::read(0, &mut chunk);

@@ -1,9 +1,9 @@
 use borrow.Author.Needs.{needs}
 use Rattle.console.proofs.ask.Statement.{statement}
 use Rattle.console.proofs.ask.Tie as tie
-use Rattle.pipettor.proofs.Keeping.{byte-kept}
+use Rattle.console.proofs.Serving.{ended}
 
-ruleset laws = (needs, byte-kept)
+ruleset laws = (needs, ended)
 
 pub ask-spec : {M : Type 1} → statement M
 ask-spec =

@@ -4,16 +4,15 @@ use native.Mathlib.Omega.{arith}
 use borrow.Author.Needs.{needs}
 use Prim.Native.Nat.{_-_}
 use lib.ListN.{length}
-use Rattle.console.specs.Eaten.{Rest}
-use Rattle.console.proofs.Lines.{starts, again}
+use Rattle.console.proofs.Lines.{Eating, begins, again, chunk-over}
 
 abbrev Inv-loop : tie.InvT-loop
-Inv-loop line₀ kept chunk c₀ n₀ from₀ line c n from = Rest c n line₀ line
+Inv-loop line₀ kept chunk c₀ n₀ from₀ line c n from = Eating c₀ kept line₀ chunk from c n line
 
 abbrev μ-loop : tie.MeasureT-loop
 μ-loop line₀ kept chunk c₀ n₀ from₀ line c n from = length chunk - from
 
-ruleset laws = (needs, starts, again)
+ruleset laws = (needs, begins, again, chunk-over)
 
 pub eat-spec : {M : Type 1} → statement M
 eat-spec =

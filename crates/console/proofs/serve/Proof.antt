@@ -3,7 +3,7 @@ use Rattle.console.proofs.serve.Tie as tie
 use borrow.Author.Needs.{needs}
 use Rattle.console.specs.Eaten.{Served}
 use Rattle.pipettor.proofs.Keeping.{made-kept}
-use Rattle.console.proofs.Lines.{opens, next-chunk}
+use Rattle.console.proofs.Lines.{opens}
 
 abbrev Inv-loop : tie.InvT-loop
 Inv-loop c₀ line₀ n₀ turns₀ c line n turns = Served c n line
@@ -11,7 +11,7 @@ Inv-loop c₀ line₀ n₀ turns₀ c line n turns = Served c n line
 abbrev μ-loop : tie.MeasureT-loop
 μ-loop c₀ line₀ n₀ turns₀ c line n turns = turns
 
-ruleset laws = (needs, made-kept, opens, next-chunk)
+ruleset laws = (needs, made-kept, opens)
 
 pub serve-spec : {M : Type 1} → statement M
 serve-spec =
