@@ -1,6 +1,6 @@
 -- A number that is taken is within its range, the default too.
 use mathlib.Core.Path.{_≡_, refl, sym, _∙_}
-use mathlib.Core.Bool.{Bool, true, false, _&&_}
+use mathlib.Core.Bool.{Bool, true, false}
 use Prim.Native.Nat.{ℕ, _-_, _/_, _^_}
 use native.Mathlib.Omega.{arith}
 use borrow.Author.Tests.{ltb-true}
@@ -8,7 +8,6 @@ use lib.Dec.{leb, ltb}
 use mir.Val.{Fits}
 use mir.Syntax.{w16}
 use Rattle.basics.specs.Choice.{if_then_else_}
-use Rattle.basics.proofs.Digits.{and-both}
 use Rattle.settings.specs.declared.Range.{Range}
 use Rattle.settings.specs.declared.Quantity.{Quantity}
 use Rattle.settings.specs.declared.Quantity.the-variants.{Home, Increments, Nanolitres, Slope, Backlash, Compensation, Choice, Delay, Passes}
@@ -18,23 +17,25 @@ use Rattle.operand.specs.declared.Number.{Number}
 use Rattle.operand.specs.declared.Number.the-variants.{Absent, Is, Wrong}
 use Rattle.command.specs.declared.Taken.{Taken}
 use Rattle.command.specs.declared.Taken.the-variants.{Good, Bad}
-use Rattle.command.specs.Table.{allowed, takenOf, wholeOf}
+use Rattle.command.specs.Table.{rangedOf, allowed, takenOf, wholeOf}
 
 pub good-is-not-bad : {A : Type 0} (v : ℕ) → Bad ≡ Good v → A
 good-is-not-bad v e = let z : _≡_ {A = ℕ} 0 1 = cc in absurd (omega arith)
 
+pub ranged-is-between : (range : Range) (n v : ℕ) → rangedOf range n ≡ Good v → Between range v
+ranged-is-between range n v e = go (within range n) refl e
+  where
+    go : (x : Bool) → within range n ≡ x → (if x then Good n else Bad) ≡ Good v → Between range v
+    go true t q = let s : n ≡ v = cc in rw s at (what-a-range-has-is-between range n t)
+    go false t q = good-is-not-bad v q
+
 pub allowed-is-between : (k : ℕ) (range : Range) (n decimals v : ℕ) → allowed k range n decimals ≡ Good v → Between range v
 unfolding allowed
-allowed-is-between k range n decimals v e = go (leb decimals k && within range m) refl e
+allowed-is-between k range n decimals v e = go (leb decimals k) e
   where
-    m : ℕ
-    m = n / 10 ^ (3 - k)
-
-    go : (x : Bool) → (leb decimals k && within range m) ≡ x → (if x then Good m else Bad) ≡ Good v → Between range v
-    go true t q =
-        let s : m ≡ v = cc in
-        rw s at (what-a-range-has-is-between range m (and-both (leb decimals k) (within range m) t .1))
-    go false t q = good-is-not-bad v q
+    go : (x : Bool) → (if x then rangedOf range (n / 10 ^ (3 - k)) else Bad) ≡ Good v → Between range v
+    go true q = ranged-is-between range (n / 10 ^ (3 - k)) v q
+    go false q = good-is-not-bad v q
 
 pub taken-is-between : (k : ℕ) (range : Range) (usual : ℕ) (n : Number) (v : ℕ) → Between range usual → takenOf k range usual n ≡ Good v → Between range v
 unfolding takenOf

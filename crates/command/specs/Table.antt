@@ -1,6 +1,6 @@
 -- 01, "Reading the data": the command table. What a letter stands for, and what its operands make of it.
 use Prim.Native.Nat.{ℕ, _-_, _/_, _^_}
-use mathlib.Core.Bool.{Bool, true, false, _&&_}
+use mathlib.Core.Bool.{Bool, true, false}
 use mathlib.Core.List.{List, [], _∷_}
 use lib.Dec.{leb, eqb}
 use Rattle.basics.specs.Choice.{if_then_else_}
@@ -50,11 +50,13 @@ letterOf b =
     else if eqb b 71 then L.Close  -- G
     else L.Other
 
+-- a number, if its range has it
+abbrev pub rangedOf : Range → ℕ → Taken
+rangedOf range n = if within range n then Good n else Bad
+
 -- a written number, in thousandths: at most k decimals, and in units of 1 / 10 ^ k within its range
 unfoldable pub allowed : ℕ → Range → ℕ → ℕ → Taken
-allowed k range thousandths decimals =
-    let n = thousandths / 10 ^ (3 - k) in
-    if leb decimals k && within range n then Good n else Bad
+allowed k range thousandths decimals = if leb decimals k then rangedOf range (thousandths / 10 ^ (3 - k)) else Bad
 
 -- "An absent number takes its default without a range check. Anything else is 3"
 unfoldable pub takenOf : ℕ → Range → ℕ → Number → Taken

@@ -9,7 +9,7 @@ use settings::Volume;
 use settings::units;
 ghost use mathlib.Core.Path.{_≡_};
 ghost use Prim.Native.Nat.{_+_, _-_, _^_, _≤_};
-ghost use Rattle.command.specs.Table.{letterOf, allowed, takenOf, wholeOf, nanolitresOf, speedOf, inTenths, flowOf, made, moveBy, volumeOf, pacedOf, slopesOf, compensationOf, commandOf};
+ghost use Rattle.command.specs.Table.{letterOf, rangedOf, allowed, takenOf, wholeOf, nanolitresOf, speedOf, inTenths, flowOf, made, moveBy, volumeOf, pacedOf, slopesOf, compensationOf, commandOf};
 ghost use Rattle.command.specs.Command.{refusalNumber, placed, commandAt};
 
 // A, P and D: to a place, up from here, down from here.
@@ -113,6 +113,23 @@ fn letter_of(b: u8) -> Letter
     }
 }
 
+// 01: "An absent number takes its default without a range check."
+fn unchecked(n: u32) -> Taken
+    ensures { λ r. ⌜ r ≡ Taken.Good n ⌝ }
+{
+    Taken::Good(n)
+}
+
+// A number, if its range has it.
+fn ranged(range: Range, n: u32) -> Taken
+    ensures { λ r. ⌜ r ≡ rangedOf range n ⌝ }
+{
+    if range.has(n) {
+        return Taken::Good(n);
+    }
+    Taken::Bad
+}
+
 // A written number of at most k decimals; `unit` is what 1 / 10 ^ k is in thousandths.
 fn allow(k: usize, unit: u32, range: Range, thousandths: u32, decimals: usize) -> Taken
     requires { ⌜ (unit ≡ 10 ^ (3 - k)) × (1 ≤ unit) ⌝ }
@@ -122,10 +139,7 @@ fn allow(k: usize, unit: u32, range: Range, thousandths: u32, decimals: usize) -
         return Taken::Bad;
     }
     let n = thousandths / unit;
-    if range.has(n) {
-        return Taken::Good(n);
-    }
-    Taken::Bad
+    ranged(range, n)
 }
 
 // A number of the table: the default where it is absent, else as written.
@@ -134,7 +148,7 @@ fn accept(k: usize, unit: u32, range: Range, usual: u32, n: Number) -> Taken
     ensures { λ r. ⌜ r ≡ takenOf k range usual n ⌝ }
 {
     match n {
-        Number::Absent => Taken::Good(usual),
+        Number::Absent => unchecked(usual),
         Number::Is {
             thousandths,
             decimals,
@@ -185,7 +199,7 @@ fn flow(of: Pace, n: Number) -> Taken
     ensures { λ r. ⌜ r ≡ flowOf of n ⌝ }
 {
     match n {
-        Number::Absent => Taken::Good(Settings::usual_speed(of)),
+        Number::Absent => unchecked(Settings::usual_speed(of)),
         Number::Is {
             thousandths,
             decimals,

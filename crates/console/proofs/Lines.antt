@@ -6,7 +6,7 @@ use Prim.Native.Nat.{ℕ, zero, suc, _+_, _-_, _≤_, _<_}
 use native.Mathlib.Omega.{arith}
 use mir.Syntax.{w64}
 use mir.Val.{Fits}
-use borrow.Author.Tests.{leb-true, leb-false, ltb-true, ltb-false, lt-ltb, le-ltb}
+use borrow.Author.Tests.{leb-true, leb-false, ltb-false, lt-ltb}
 use lib.Dec.{leb, ltb, eqb}
 use lib.ListN.{length, take, drop, length-append, length-drop, drop-of-length-le}
 use lib.Seq.{take-at, drop-nil, length-take-le}
@@ -16,6 +16,7 @@ use Rattle.basics.specs.declared.Put.the-variants.{Bytes, NoRoom}
 use Rattle.basics.specs.Lay.{over, fits, laidIn, Laid}
 use Rattle.basics.proofs.Choice.{by}
 use Rattle.basics.proofs.Over.{length-over}
+use Rattle.basics.proofs.Rules.{by-order}
 use Rattle.desk.specs.Desk.{lineOf, LineEnd}
 use Rattle.desk.proofs.Lines.{long}
 use Rattle.pipettor.specs.declared.Controller.{Controller}
@@ -140,14 +141,6 @@ take-line (b ∷ t) = by (λ (l : List ℕ). take (length l) (b ∷ t) ≡ l) (e
 abbrev after-line : List ℕ → Bool → List ℕ → Bench → Bench
 after-line line ended more s =
     if ended then eatenOf more (bench (servedOf (s .kept ++ line) (s .controller)) []) else bench (s .controller) (s .kept ++ line)
-
--- two tests of one order
-by-order : (a b c d : ℕ) → (a < b → c < d) → (b ≤ a → d ≤ c) → ltb a b ≡ ltb c d
-by-order a b c d f g = go (ltb a b) refl
-  where
-    go : (x : Bool) → ltb a b ≡ x → x ≡ ltb c d
-    go true e = sym (lt-ltb c d (f (ltb-true a b e)))
-    go false e = sym (le-ltb c d (g (ltb-false a b e)))
 
 one-more-drop : (b n : ℕ) (t : List ℕ) → drop (n + 1) t ≡ drop (suc n + 1) (b ∷ t)
 one-more-drop b n t = let e : suc n + 1 ≡ suc (n + 1) = omega arith in rw e

@@ -4,6 +4,8 @@ use mathlib.Core.List.{List, [], _∷_, _++_}
 use lib.Dec.{eqb}
 use Rattle.basics.specs.Choice.{if_then_else_}
 use Rattle.basics.specs.Bytes.{zeroDigit, point}
+use Rattle.decimal.specs.declared.Decimals.{Decimals}
+use Rattle.decimal.specs.declared.Decimals.the-variants.{One, Three}
 
 -- the last k digits of n, the highest first, leading zeros too
 unfoldable pub lastDigits : ℕ → ℕ → List ℕ
@@ -19,6 +21,11 @@ trim (d ∷ e ∷ ds) = if eqb d zeroDigit then trim (e ∷ ds) else d ∷ e ∷
 -- a whole number: ten digits are enough for 32 bits
 unfoldable pub digitsOf : ℕ → List ℕ
 digitsOf n = trim (lastDigits 10 n)
+
+-- "increments a second one decimal, µL three"
+abbrev pub countOf : Decimals → ℕ
+countOf One = 1
+countOf Three = 3
 
 -- n in units of 1 / 10 ^ d: the whole part, and where there are decimals a point and d of them
 unfoldable pub fixedOf : ℕ → ℕ → List ℕ

@@ -1,9 +1,16 @@
 -- What the private functions promise one another; no public contract cites it.
-use Prim.Native.Nat.{ℕ, _≤_}
+use Prim.Native.Nat.{ℕ, _≤_, _<_}
 use mathlib.Core.Path.{_≡_}
 use mathlib.Core.List.{List, _++_}
 use lib.ListN.{length, drop}
-use Rattle.decimal.specs.Digits.{trim, digitsOf}
+use Rattle.decimal.specs.declared.Decimals.{Decimals}
+use Rattle.decimal.specs.Digits.{trim, digitsOf, countOf}
+
+-- so many decimals there are, and a scratch array has room for them
+pub record Counted (with : Decimals) (r : ℕ) : Type 0 where
+  pub same : r ≡ countOf with
+  pub some : 0 < r
+  pub few : r ≤ 3
 
 -- r leading zeros are left out
 pub record Idle (ds : List ℕ) (r : ℕ) : Type 0 where

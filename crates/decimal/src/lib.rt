@@ -1,11 +1,39 @@
 // Numbers written in decimal into a buffer that the caller lends: whole, with one decimal, with three.
 use basics::Put;
 ghost use mathlib.Core.Path.{_≡_};
-ghost use Prim.Native.Nat.{_-_, _≤_, _<_, _^_};
+ghost use Prim.Native.Nat.{_-_, _≤_, _^_};
 ghost use lib.ListN.{length};
 ghost use Rattle.basics.specs.Lay.{Laid, over};
-ghost use Rattle.decimal.specs.Digits.{lastDigits, fixedOf};
-ghost use Rattle.decimal.specs.Scratch.{Idle, Before};
+ghost use Rattle.decimal.specs.Digits.{lastDigits, countOf, fixedOf};
+ghost use Rattle.decimal.specs.Scratch.{Counted, Idle, Before};
+
+// The decimals of a fraction: one for increments a second, three for µL.
+enum Decimals {
+    One,
+    Three,
+}
+
+impl Decimals {
+    // How many they are.
+    fn count(self) -> usize
+        ensures { λ r. ⌜ Counted self r ⌝ }
+    {
+        match self {
+            Decimals::One => 1,
+            Decimals::Three => 3,
+        }
+    }
+
+    // How many units of the last decimal make a whole.
+    fn unit(self) -> u32
+        ensures { λ r. ⌜ r ≡ 10 ^ countOf self ⌝ }
+    {
+        match self {
+            Decimals::One => 10,
+            Decimals::Three => 1000,
+        }
+    }
+}
 
 // The last k digits of n, the last of them just before `end`.
 fn put_last(k: usize, n: u32, buf: &mut [u8], end: usize)
@@ -52,15 +80,16 @@ fn put_before(n: u32, buf: &mut [u8], end: usize) -> usize
     start + idle
 }
 
-// n in units of 1 / unit, which is 10 ^ decimals.
-fn put_pointed(n: u32, unit: u32, decimals: usize, buf: &mut [u8], at: usize) -> Put
-    requires { ⌜ (unit ≡ 10 ^ decimals) × (0 < decimals) × (decimals ≤ 3) ⌝ }
-    ensures { λ r. ⌜ Laid (fixedOf decimals n) at (now (buf .entry)) r (now (buf .exit)) ⌝ }
+// n in units of the last decimal.
+fn put_pointed(n: u32, with: Decimals, buf: &mut [u8], at: usize) -> Put
+    ensures { λ r. ⌜ Laid (fixedOf (countOf with) n) at (now (buf .entry)) r (now (buf .exit)) ⌝ }
 {
+    let decimals = with.count();
     let mut scratch = [0u8; 14];
     put_last(decimals, n, &mut scratch, 14);
     let end = 13 - decimals;
     scratch[end] = b'.';
+    let unit = with.unit();
     let from = put_before(n / unit, &mut scratch, end);
     basics::lay(&scratch[from..], buf, at)
 }
@@ -78,12 +107,12 @@ pub fn put_whole(n: u32, buf: &mut [u8], at: usize) -> Put
 pub fn put_tenths(n: u32, buf: &mut [u8], at: usize) -> Put
     ensures { λ r. ⌜ Laid (fixedOf 1 n) at (now (buf .entry)) r (now (buf .exit)) ⌝ }
 {
-    put_pointed(n, 10, 1, buf, at)
+    put_pointed(n, Decimals::One, buf, at)
 }
 
 // Thousandths, with three decimals: 2503 is `2.503`.
 pub fn put_thousandths(n: u32, buf: &mut [u8], at: usize) -> Put
     ensures { λ r. ⌜ Laid (fixedOf 3 n) at (now (buf .entry)) r (now (buf .exit)) ⌝ }
 {
-    put_pointed(n, 1000, 3, buf, at)
+    put_pointed(n, Decimals::Three, buf, at)
 }

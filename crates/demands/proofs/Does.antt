@@ -25,12 +25,13 @@ use Rattle.line.specs.declared.Deed.the-variants as W
 use Rattle.line.specs.Wire.{hearOf, keepOf}
 use Rattle.motion.specs.Events.{Turn, quiet}
 use Rattle.machine.specs.declared.step.Core.{Core}
-use Rattle.machine.specs.declared.buffer.Action.{Action}
-use Rattle.machine.specs.declared.buffer.Order.the-variants as O
+use Rattle.buffer.specs.declared.order.Action.{Action}
+use Rattle.buffer.specs.declared.order.Order.the-variants as O
 use Rattle.machine.specs.declared.Device.{Device}
 use Rattle.machine.specs.declared.Ran.{Ran}
 use Rattle.machine.specs.Run.{usedOf}
-use Rattle.machine.specs.Buffer.{orderOf, codeOf, laidBy, storedBy, coreError, doneOf, actedOf, actOf, textOf}
+use Rattle.buffer.specs.Order.{orderOf, codeOf, laidBy, storedBy}
+use Rattle.machine.specs.Act.{coreError, doneOf, actedOf, actOf, textOf}
 use Rattle.machine.specs.Device.{device, advanceOf, ranOf}
 use Rattle.machine.specs.History as Machine
 use Rattle.machine.specs.OnCourse.{Loaded, SentBy}

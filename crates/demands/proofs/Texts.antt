@@ -24,22 +24,23 @@ use Rattle.motion.specs.declared.Effect.{Effect}
 use Rattle.motion.specs.declared.Effect.the-variants.{Goes, Fails, Opens, Closes}
 use Rattle.motion.specs.Events.{Turn}
 use Rattle.motion.specs.Motion.{effectOf, onwardOf}
-use Rattle.machine.specs.declared.course.State.{State}
-use Rattle.machine.specs.declared.course.State.the-variants.{Empty, Stored, Running, Stopped, Done}
-use Rattle.machine.specs.declared.course.Loops.{Loops}
-use Rattle.machine.specs.declared.course.Course.{Course}
+use Rattle.buffer.specs.declared.course.State.{State}
+use Rattle.buffer.specs.declared.course.State.the-variants.{Empty, Stored, Running, Stopped, Done}
+use Rattle.buffer.specs.declared.course.Loops.{Loops}
+use Rattle.buffer.specs.declared.course.Course.{Course}
 use Rattle.machine.specs.declared.step.Core.{Core}
 use Rattle.machine.specs.declared.Device.{Device}
-use Rattle.machine.specs.Course.{reached, goneOn}
+use Rattle.buffer.specs.Course.{reached, goneOn}
 use Rattle.machine.specs.Step.{appliedOf, takenOf, carriedOn, activeOf, stepOf}
 use Rattle.machine.specs.Run.{readyIn, readyOf, ticksOf}
 use Rattle.machine.specs.Device.{advanceOf}
 use Rattle.machine.proofs.Looping.{behind-open, behind-close}
 use Rattle.machine.proofs.Runs.{ready-ticks}
-use Rattle.machine.specs.declared.buffer.Action.the-variants as A
+use Rattle.buffer.specs.declared.order.Action.the-variants as A
 use Rattle.machine.specs.Valid.{Ready}
 use Rattle.machine.specs.Refusals.{answerOf}
-use Rattle.machine.specs.Buffer.{orderOf, codeOf, actOf, textOf}
+use Rattle.buffer.specs.Order.{orderOf, codeOf}
+use Rattle.machine.specs.Act.{actOf, textOf}
 use Rattle.machine.specs.History as Machine
 use Rattle.machine.proofs.Stored.{a-string-that-replaces-is-stored-whole, a-string-that-joins-is-stored-behind}
 use Rattle.pipettor.specs.declared.address.Address.{Address}

@@ -17,6 +17,8 @@ use Rattle.command.proofs as command
 use Rattle.line.proofs as line
 use Rattle.text.proofs as text
 use Rattle.motion.proofs as motion
+use Rattle.buffer.proofs as buffer
+use Rattle.reports.proofs as reports
 use Rattle.machine.proofs as machine
 use Rattle.pipettor.proofs as pipettor
 use Rattle.desk.proofs as desk
@@ -159,36 +161,62 @@ motion-Body-cut κs args z z′ ws ws′ p q = result p q
 pub motion-Body-reset : Tight motion.Body.reset.Kinds.ps motion.Body.reset.Kinds.r motion.Body.reset.Reads.Learnt
 motion-Body-reset κs args z z′ ws ws′ p q = result p q
 
+-- buffer
+pub buffer-course-Loops-none : Tight buffer.course.Loops.none.Kinds.ps buffer.course.Loops.none.Kinds.r buffer.course.Loops.none.Reads.Learnt
+buffer-course-Loops-none κs args z z′ ws ws′ p q = result p q
+
+pub buffer-course-Course-reach : Tight buffer.course.Course.reach.Kinds.ps buffer.course.Course.reach.Kinds.r buffer.course.Course.reach.Reads.Learnt
+buffer-course-Course-reach κs args z z′ ws ws′ p q = result p q
+
+pub buffer-course-Course-go-on : Tight buffer.course.Course.go_on.Kinds.ps buffer.course.Course.go_on.Kinds.r buffer.course.Course.go_on.Reads.Learnt
+buffer-course-Course-go-on κs args z z′ ws ws′ p q = result p q
+
+pub buffer-course-Course-failed : Tight buffer.course.Course.failed.Kinds.ps buffer.course.Course.failed.Kinds.r buffer.course.Course.failed.Reads.Learnt
+buffer-course-Course-failed κs args z z′ ws ws′ p q = result p q
+
+pub buffer-course-Course-open : Tight buffer.course.Course.open.Kinds.ps buffer.course.Course.open.Kinds.r buffer.course.Course.open.Reads.Learnt
+buffer-course-Course-open κs args z z′ ws ws′ p q = result p q
+
+pub buffer-course-Course-close : Tight buffer.course.Course.close.Kinds.ps buffer.course.Course.close.Kinds.r buffer.course.Course.close.Reads.Learnt
+buffer-course-Course-close κs args z z′ ws ws′ p q = result p q
+
+pub buffer-course-Course-in-state : Tight buffer.course.Course.in_state.Kinds.ps buffer.course.Course.in_state.Kinds.r buffer.course.Course.in_state.Reads.Learnt
+buffer-course-Course-in-state κs args z z′ ws ws′ p q = result p q
+
+pub buffer-course-Course-with-error : Tight buffer.course.Course.with_error.Kinds.ps buffer.course.Course.with_error.Kinds.r buffer.course.Course.with_error.Reads.Learnt
+buffer-course-Course-with-error κs args z z′ ws ws′ p q = result p q
+
+pub buffer-course-Course-wait : Tight buffer.course.Course.wait.Kinds.ps buffer.course.Course.wait.Kinds.r buffer.course.Course.wait.Reads.Learnt
+buffer-course-Course-wait κs args z z′ ws ws′ p q = result p q
+
+pub buffer-course-Course-begin : Tight buffer.course.Course.begin.Kinds.ps buffer.course.Course.begin.Kinds.r buffer.course.Course.begin.Reads.Learnt
+buffer-course-Course-begin κs args z z′ ws ws′ p q = result p q
+
+pub buffer-course-Course-erase : Tight buffer.course.Course.erase.Kinds.ps buffer.course.Course.erase.Kinds.r buffer.course.Course.erase.Reads.Learnt
+buffer-course-Course-erase κs args z z′ ws ws′ p q = result p q
+
+pub buffer-course-Course-halt : Tight buffer.course.Course.halt.Kinds.ps buffer.course.Course.halt.Kinds.r buffer.course.Course.halt.Reads.Learnt
+buffer-course-Course-halt κs args z z′ ws ws′ p q = result p q
+
+pub buffer-order-Action-order : Tight buffer.order.Action.order.Kinds.ps buffer.order.Action.order.Kinds.r buffer.order.Action.order.Reads.Learnt
+buffer-order-Action-order κs args z z′ ws ws′ p q = result p q
+
+pub buffer-order-Order-code : Tight buffer.order.Order.code.Kinds.ps buffer.order.Order.code.Kinds.r buffer.order.Order.code.Reads.Learnt
+buffer-order-Order-code κs args z z′ ws ws′ p q = result p q
+
+pub buffer-order-store : Tight buffer.order.store.Kinds.ps buffer.order.store.Kinds.r buffer.order.store.Reads.Learnt
+buffer-order-store κs args z z′ ws ws′ p q = lent (λ y. (tt, (tt, (tt, (tt, (y, tt)))))) refl refl p q
+
+-- reports
+pub reports-tell : Tight reports.tell.Kinds.ps reports.tell.Kinds.r reports.tell.Reads.Learnt
+reports-tell κs args z z′ ws ws′ p q = result p q
+
 -- machine
-pub machine-course-Loops-none : Tight machine.course.Loops.none.Kinds.ps machine.course.Loops.none.Kinds.r machine.course.Loops.none.Reads.Learnt
-machine-course-Loops-none κs args z z′ ws ws′ p q = result p q
-
-pub machine-course-Course-reach : Tight machine.course.Course.reach.Kinds.ps machine.course.Course.reach.Kinds.r machine.course.Course.reach.Reads.Learnt
-machine-course-Course-reach κs args z z′ ws ws′ p q = result p q
-
-pub machine-course-Course-go-on : Tight machine.course.Course.go_on.Kinds.ps machine.course.Course.go_on.Kinds.r machine.course.Course.go_on.Reads.Learnt
-machine-course-Course-go-on κs args z z′ ws ws′ p q = result p q
-
-pub machine-course-Course-failed : Tight machine.course.Course.failed.Kinds.ps machine.course.Course.failed.Kinds.r machine.course.Course.failed.Reads.Learnt
-machine-course-Course-failed κs args z z′ ws ws′ p q = result p q
-
-pub machine-course-Course-open : Tight machine.course.Course.open.Kinds.ps machine.course.Course.open.Kinds.r machine.course.Course.open.Reads.Learnt
-machine-course-Course-open κs args z z′ ws ws′ p q = result p q
-
-pub machine-course-Course-close : Tight machine.course.Course.close.Kinds.ps machine.course.Course.close.Kinds.r machine.course.Course.close.Reads.Learnt
-machine-course-Course-close κs args z z′ ws ws′ p q = result p q
-
 pub machine-step-Core-ready : Tight machine.step.Core.ready.Kinds.ps machine.step.Core.ready.Kinds.r machine.step.Core.ready.Reads.Learnt
 machine-step-Core-ready κs args z z′ ws ws′ p q = result p q
 
 pub machine-step-run : Tight machine.step.run.Kinds.ps machine.step.run.Kinds.r machine.step.run.Reads.Learnt
 machine-step-run κs args z z′ ws ws′ p q = result p q
-
-pub machine-buffer-Action-order : Tight machine.buffer.Action.order.Kinds.ps machine.buffer.Action.order.Kinds.r machine.buffer.Action.order.Reads.Learnt
-machine-buffer-Action-order κs args z z′ ws ws′ p q = result p q
-
-pub machine-buffer-Order-code : Tight machine.buffer.Order.code.Kinds.ps machine.buffer.Order.code.Kinds.r machine.buffer.Order.code.Reads.Learnt
-machine-buffer-Order-code κs args z z′ ws ws′ p q = result p q
 
 pub machine-step-Core-stop : Tight machine.step.Core.stop.Kinds.ps machine.step.Core.stop.Kinds.r machine.step.Core.stop.Reads.Learnt
 machine-step-Core-stop κs args z z′ ws ws′ p q = result p q
@@ -201,9 +229,6 @@ machine-step-Core-act κs args z z′ ws ws′ p q = result p q
 
 pub machine-step-Core-skip : Tight machine.step.Core.skip.Kinds.ps machine.step.Core.skip.Kinds.r machine.step.Core.skip.Reads.Learnt
 machine-step-Core-skip κs args z z′ ws ws′ p q = result p q
-
-pub machine-buffer-store : Tight machine.buffer.store.Kinds.ps machine.buffer.store.Kinds.r machine.buffer.store.Reads.Learnt
-machine-buffer-store κs args z z′ ws ws′ p q = lent (λ y. (tt, (tt, (tt, (tt, (y, tt)))))) refl refl p q
 
 pub machine-Device-fresh : Tight machine.Device.fresh.Kinds.ps machine.Device.fresh.Kinds.r machine.Device.fresh.Reads.Learnt
 machine-Device-fresh κs args z z′ ws ws′ p q = result p q

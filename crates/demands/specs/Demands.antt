@@ -11,7 +11,7 @@ use Rattle.line.specs.Wire.{dataByte}
 use Rattle.motion.specs.declared.Activity.{Activity}
 use Rattle.motion.specs.declared.Activity.the-variants.{Between}
 use Rattle.motion.specs.Events.{quiet, start, volume}
-use Rattle.machine.specs.declared.course.State.the-variants.{Empty, Running}
+use Rattle.buffer.specs.declared.course.State.the-variants.{Empty, Running}
 use Rattle.machine.specs.declared.Used.the-variants.{Ticks, S3}
 use Rattle.machine.specs.Run.{readyOf}
 use Rattle.machine.specs.Refusals.{Exactly}

@@ -19,20 +19,21 @@ use Rattle.text.specs.Data.{receivedOf}
 use Rattle.line.specs.Answer as Line
 use Rattle.line.specs.Answer.{statusOf}
 use Rattle.motion.specs.Events.{Turn}
-use Rattle.machine.specs.declared.course.State.{State}
+use Rattle.buffer.specs.declared.course.State.{State}
 use Rattle.machine.specs.declared.Device.{Device}
-use Rattle.machine.specs.declared.buffer.Action.{Action}
-use Rattle.machine.specs.declared.buffer.Action.the-variants as A
+use Rattle.buffer.specs.declared.order.Action.{Action}
+use Rattle.buffer.specs.declared.order.Action.the-variants as A
 use Rattle.machine.specs.Run.{readyOf}
-use Rattle.machine.specs.Buffer.{codeOf, storedBy, actedOf}
+use Rattle.buffer.specs.Order.{codeOf, storedBy}
+use Rattle.machine.specs.Act.{actedOf}
 use Rattle.machine.specs.Refusals.{answerOf, NothingToRun, run-empty, run-done, again-empty, again-stored, again-stopped, again-delaying, Exactly}
 use Rattle.machine.proofs.Refusals.{nothing-to-run-is-14, busy-or-too-long-is-15, wrong-loops-are-3, no-other-refusal}
 use Rattle.pipettor.specs.declared.address.Address.{Address}
-use Rattle.pipettor.specs.declared.reports.Told.{Told}
-use Rattle.pipettor.specs.declared.reports.Told.the-variants.{Says, No}
+use Rattle.reports.specs.declared.Told.{Told}
+use Rattle.reports.specs.declared.Told.the-variants.{Says, No}
 use Rattle.pipettor.specs.declared.acting.Got.the-variants as G
 use Rattle.pipettor.specs.declared.Said.the-variants.{Answer}
-use Rattle.pipettor.specs.Reports.{toldOf}
+use Rattle.pipettor.specs.Byte.{toldOf}
 use Rattle.pipettor.specs.Byte.{actionOf, stringAction, taskOf, taskCode, taskDone, taskText, outcomeOf, toldCode, saidOf, writtenOf}
 use Rattle.frames.specs.Frame.{Exchange, doesOf, addedOf, exchangeOf}
 use Rattle.frames.specs.Refused.{toldNumber, toldReport, numberFor, refusalOf, isReport, Replied, Refused, Unchanged, Known, WrongLetter, letter, WrongNumber, operand, report, report-number, loops-of-control, loops-of-text, TooMuchNow, too-many-bytes, control, text, NothingNow, nothing}

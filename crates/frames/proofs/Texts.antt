@@ -15,13 +15,14 @@ use Rattle.text.specs.declared.Data.{Data}
 use Rattle.text.specs.declared.Data.the-variants as D
 use Rattle.text.specs.Data.{spaceless, body, dataOf, receivedOf}
 use Rattle.text.proofs.Strings.{a-text-stands-in-front}
-use Rattle.machine.specs.declared.course.State.{State}
-use Rattle.machine.specs.declared.course.Course.{Course}
+use Rattle.buffer.specs.declared.course.State.{State}
+use Rattle.buffer.specs.declared.course.Course.{Course}
 use Rattle.machine.specs.declared.Device.{Device}
-use Rattle.machine.specs.declared.buffer.Order.{Order}
-use Rattle.machine.specs.declared.buffer.Order.the-variants as O
+use Rattle.buffer.specs.declared.order.Order.{Order}
+use Rattle.buffer.specs.declared.order.Order.the-variants as O
 use Rattle.machine.specs.Device.{device}
-use Rattle.machine.specs.Buffer.{orderOf, sized, codeOf, doneOf, laidBy, storedBy, actedOf}
+use Rattle.buffer.specs.Order.{orderOf, sized, codeOf, laidBy, storedBy}
+use Rattle.machine.specs.Act.{doneOf, actedOf}
 use Rattle.pipettor.specs.declared.address.Address.{Address}
 use Rattle.pipettor.specs.Byte.{stringAction, taskOf, taskCode, taskDone, taskText}
 use Rattle.frames.specs.Frame.{doesOf, addedOf, exchangeOf}

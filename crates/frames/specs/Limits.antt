@@ -8,8 +8,8 @@ use Rattle.motion.specs.declared.Activity.the-variants.{Delaying}
 use Rattle.text.specs.Text.{readOf}
 use Rattle.text.specs.Loops.{loopsIn}
 use Rattle.text.specs.Data.{spaceless, body, receivedOf}
-use Rattle.machine.specs.declared.course.State.{State}
-use Rattle.machine.specs.declared.course.State.the-variants.{Empty, Stored, Running, Stopped, Done}
+use Rattle.buffer.specs.declared.course.State.{State}
+use Rattle.buffer.specs.declared.course.State.the-variants.{Empty, Stored, Running, Stopped, Done}
 use Rattle.machine.specs.declared.Device.{Device}
 use Rattle.pipettor.specs.declared.address.Address.{Address}
 use Rattle.frames.specs.Frame.{exchangeOf}

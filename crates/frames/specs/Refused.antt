@@ -19,18 +19,18 @@ use Rattle.line.specs.declared.Report.{Report}
 use Rattle.line.specs.declared.Report.the-variants.{Nothing}
 use Rattle.line.specs.Answer.{statusOf, answerOf}
 use Rattle.motion.specs.Events.{Turn}
-use Rattle.machine.specs.declared.course.State.{State}
+use Rattle.buffer.specs.declared.course.State.{State}
 use Rattle.machine.specs.declared.step.Core.{Core}
 use Rattle.machine.specs.declared.Device.{Device}
 use Rattle.machine.specs.Run.{readyOf}
-use Rattle.machine.specs.Buffer.{coreError}
+use Rattle.machine.specs.Act.{coreError}
 use Rattle.machine.specs.Refusals as Buffer
 use Rattle.machine.specs.Refusals.{NothingToRun, TooMuch, WrongLoops}
 use Rattle.pipettor.specs.declared.address.Address.{Address}
-use Rattle.pipettor.specs.declared.reports.Told.{Told}
-use Rattle.pipettor.specs.declared.reports.Told.the-variants.{Says, No}
+use Rattle.reports.specs.declared.Told.{Told}
+use Rattle.reports.specs.declared.Told.the-variants.{Says, No}
 use Rattle.pipettor.specs.declared.Said.the-variants.{Answer}
-use Rattle.pipettor.specs.Reports.{toldOf}
+use Rattle.pipettor.specs.Byte.{toldOf}
 use Rattle.pipettor.specs.Byte.{actionOf, stringAction}
 use Rattle.frames.specs.Frame.{Exchange, addedOf}
 

@@ -6,16 +6,16 @@ use borrow.Author.Tests.{lt-ltb, le-ltb}
 use lib.ListN.{replicate}
 use Rattle.motion.specs.declared.Body.{Body}
 use Rattle.motion.specs.Motion.{freshBody}
-use Rattle.machine.specs.declared.course.State.the-variants.{Empty}
-use Rattle.machine.specs.declared.course.Loops.{Loops}
+use Rattle.buffer.specs.declared.course.State.the-variants.{Empty}
+use Rattle.buffer.specs.declared.course.Loops.{Loops}
 use Rattle.machine.specs.declared.step.Core.{Core}
 use Rattle.machine.specs.declared.step.Ticked.{Ticked}
 use Rattle.machine.specs.declared.Device.{Device}
 use Rattle.machine.specs.declared.Used.the-variants.{Ticks, S3}
-use Rattle.machine.specs.Course.{courseOf, noLoops}
+use Rattle.buffer.specs.Course.{courseOf, noLoops}
 use Rattle.machine.specs.Step.{core}
 use Rattle.machine.specs.Run.{ticksOf, usedOf, runOf}
-use Rattle.machine.specs.Buffer.{stopOf}
+use Rattle.machine.specs.Act.{stopOf}
 use Rattle.machine.specs.Device.{device, freshOf, tickOf, haltedOf, advanceOf, ranOf}
 use Rattle.machine.proofs.Runs.{used-ticks}
 

@@ -18,10 +18,12 @@ use Rattle.text.specs.Text.{readFrom, readOf}
 use Rattle.text.specs.Loops.{levelOf, levels, loopsOk}
 use Rattle.motion.specs.Events.{Event, start, volume}
 use Rattle.motion.specs.Motion as Motion
-use Rattle.machine.specs.declared.buffer.Action.the-variants.{Launch}
-use Rattle.machine.specs.Course.{reached, goneOn}
+use Rattle.buffer.specs.declared.order.Action.the-variants.{Launch}
+use Rattle.buffer.specs.Course.{reached, goneOn}
 use Rattle.machine.specs.Step as Step
-use Rattle.machine.specs.Buffer.{orderOf, sized, codeOf, halted, haltOf, stopOf, doneOf, laidBy, storedBy, actedOf, actOf, textOf}
+use Rattle.buffer.specs.Course.{halted}
+use Rattle.buffer.specs.Order.{orderOf, sized, codeOf, laidBy, storedBy}
+use Rattle.machine.specs.Act.{haltOf, stopOf, doneOf, actedOf, actOf, textOf}
 use Rattle.machine.specs.Device.{freshOf, tickOf, haltedOf}
 use Rattle.machine.specs.History.{Call, callOf, afterOf, eventsOf, after, history}
 use Rattle.machine.specs.History.Call.{tick, act, stop}

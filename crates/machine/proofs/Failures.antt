@@ -30,11 +30,11 @@ use Rattle.text.specs.declared.loops.Level.{Level}
 use Rattle.text.specs.declared.loops.Level.the-variants.{At}
 use Rattle.text.specs.Text.{Step, reads, readOf}
 use Rattle.text.specs.Loops.{Part, opens, partOf, levelOf, follow, levels, closed, loopsOk, commands}
-use Rattle.machine.specs.declared.course.State.{State}
-use Rattle.machine.specs.declared.course.State.the-variants.{Empty, Running}
-use Rattle.machine.specs.declared.course.Loops.{Loops}
-use Rattle.machine.specs.declared.course.Course.{Course}
-use Rattle.machine.specs.Course.{mark, pushed, reached, goneOn, failedOf, openedOf}
+use Rattle.buffer.specs.declared.course.State.{State}
+use Rattle.buffer.specs.declared.course.State.the-variants.{Empty, Running}
+use Rattle.buffer.specs.declared.course.Loops.{Loops}
+use Rattle.buffer.specs.declared.course.Course.{Course}
+use Rattle.buffer.specs.Course.{mark, pushed, reached, goneOn, failedOf, openedOf}
 use Rattle.machine.specs.declared.step.Core.{Core}
 use Rattle.machine.specs.Step.{core, appliedOf, takenOf, carriedOn, activeOf, stepOf}
 use Rattle.text.proofs.Tiles.{Tiled, a-part-reads}

@@ -21,12 +21,12 @@ use Rattle.command.specs.declared.Found.the-variants as F
 use Rattle.command.specs.Command.{commandAt}
 use Rattle.command.specs.Allowed.{Allowed}
 use Rattle.command.proofs.Allowed.{a-command-read-is-allowed}
-use Rattle.machine.specs.declared.course.State.{State}
-use Rattle.machine.specs.declared.course.State.the-variants.{Empty, Stored, Running, Stopped, Done}
-use Rattle.machine.specs.declared.course.Loops.{Loops}
-use Rattle.machine.specs.declared.course.Course.{Course}
+use Rattle.buffer.specs.declared.course.State.{State}
+use Rattle.buffer.specs.declared.course.State.the-variants.{Empty, Stored, Running, Stopped, Done}
+use Rattle.buffer.specs.declared.course.Loops.{Loops}
+use Rattle.buffer.specs.declared.course.Course.{Course}
 use Rattle.machine.specs.declared.step.Core.{Core}
-use Rattle.machine.specs.Course.{reached, goneOn, failedOf, openedOf, closedOf}
+use Rattle.buffer.specs.Course.{reached, goneOn, failedOf, openedOf, closedOf}
 use Rattle.machine.specs.Step.{core, appliedOf, takenOf, carriedOn, activeOf, stepOf}
 use Rattle.machine.specs.Valid.{StateOk, CourseOk, Valid}
 use Rattle.machine.proofs.Looping.{behind-open, behind-close}

@@ -14,15 +14,17 @@ use Rattle.basics.proofs.Choice.{by}
 use Rattle.basics.proofs.Over.{length-over}
 use Rattle.motion.specs.Events.{Turn}
 use Rattle.motion.proofs.Keeps.{cut-keeps, reset-keeps}
-use Rattle.machine.specs.declared.course.State.{State}
-use Rattle.machine.specs.declared.course.State.the-variants.{Empty, Stored, Running, Stopped, Done}
-use Rattle.machine.specs.declared.course.Course.{Course}
+use Rattle.buffer.specs.declared.course.State.{State}
+use Rattle.buffer.specs.declared.course.State.the-variants.{Empty, Stored, Running, Stopped, Done}
+use Rattle.buffer.specs.declared.course.Course.{Course}
 use Rattle.machine.specs.declared.step.Core.{Core}
-use Rattle.machine.specs.declared.buffer.Action.{Action}
-use Rattle.machine.specs.declared.buffer.Order.{Order}
-use Rattle.machine.specs.declared.buffer.Order.the-variants as O
+use Rattle.buffer.specs.declared.order.Action.{Action}
+use Rattle.buffer.specs.declared.order.Order.{Order}
+use Rattle.buffer.specs.declared.order.Order.the-variants as O
 use Rattle.machine.specs.Step.{core}
-use Rattle.machine.specs.Buffer.{orderOf, sized, codeOf, waiting, begun, halted, haltOf, stopOf, doneOf, laidBy, storedBy, coreError, actedOf, actOf, textOf}
+use Rattle.buffer.specs.Course.{waiting, begun, halted}
+use Rattle.buffer.specs.Order.{orderOf, sized, codeOf, laidBy, storedBy}
+use Rattle.machine.specs.Act.{haltOf, stopOf, doneOf, coreError, actedOf, actOf, textOf}
 use Rattle.machine.specs.Valid.{CourseOk, Valid, Ready}
 use Rattle.machine.proofs.Keeps.{reached-ok}
 

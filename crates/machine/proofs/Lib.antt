@@ -1,4 +1,3 @@
-pub mod Places
 pub mod Stepping
 pub mod Keeps
 pub mod Runs

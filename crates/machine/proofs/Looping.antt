@@ -2,11 +2,11 @@
 use Prim.Native.Nat.{ℕ}
 use lib.Dec.{ltb, eqb}
 use Rattle.basics.proofs.Choice.{by}
-use Rattle.machine.specs.declared.course.Loops.{Loops}
-use Rattle.machine.specs.declared.course.Course.{Course}
-use Rattle.machine.specs.declared.course.Pass.{Pass}
-use Rattle.machine.specs.declared.course.Pass.the-variants.{Again, Over}
-use Rattle.machine.specs.Course.{mark, pushed, popped, repeated, bareRepeated, passOf, reached, failedOf, openedOf, closedBy, closedBare, closedOf}
+use Rattle.buffer.specs.declared.course.Loops.{Loops}
+use Rattle.buffer.specs.declared.course.Course.{Course}
+use Rattle.buffer.specs.declared.course.Pass.{Pass}
+use Rattle.buffer.specs.declared.course.Pass.the-variants.{Again, Over}
+use Rattle.buffer.specs.Course.{mark, pushed, popped, repeated, bareRepeated, passOf, reached, failedOf, openedOf, closedBy, closedBare, closedOf}
 
 module _ (P : Course → Type 0) (c : Course) (reaches : (at : ℕ) (l : Loops) → P (reached at l c)) where
   pub behind-open : P (failedOf 3 c) → (next : ℕ) → P (openedOf next c)

@@ -17,11 +17,11 @@ use Rattle.motion.specs.declared.Activity.{Activity}
 use Rattle.motion.specs.declared.Activity.the-variants.{Initialising, Moving}
 use Rattle.motion.specs.Bounds.{TravelOk, ActivityOk}
 use Rattle.motion.specs.Motion.{laterOf, plungerOf, bodyAt, bodyKnown, carried, onwardOf}
-use Rattle.machine.specs.declared.course.State.{State}
-use Rattle.machine.specs.declared.course.State.the-variants.{Running}
-use Rattle.machine.specs.declared.course.Course.{Course}
+use Rattle.buffer.specs.declared.course.State.{State}
+use Rattle.buffer.specs.declared.course.State.the-variants.{Running}
+use Rattle.buffer.specs.declared.course.Course.{Course}
 use Rattle.machine.specs.declared.step.Core.{Core}
-use Rattle.machine.specs.Course.{inState, reached, goneOn}
+use Rattle.buffer.specs.Course.{inState, reached, goneOn}
 use Rattle.machine.specs.Step.{core, carriedOn, activeOf, stepOf}
 use Rattle.machine.specs.Run.{ticksOf}
 use Rattle.machine.specs.Valid.{Valid}

@@ -31,21 +31,23 @@ use Rattle.text.specs.declared.loops.Level.{Level}
 use Rattle.text.specs.declared.loops.Level.the-variants.{At, Broken}
 use Rattle.text.specs.Text.{Step, reads, readFrom, readOf}
 use Rattle.text.specs.Loops.{Part, opens, closes, plain, partOf, levels, closed, loopsOk, commands, loopsIn}
-use Rattle.machine.specs.declared.course.State.{State}
-use Rattle.machine.specs.declared.course.State.the-variants.{Empty, Stored, Running, Stopped, Done}
-use Rattle.machine.specs.declared.course.Loops.{Loops}
-use Rattle.machine.specs.declared.course.Course.{Course}
-use Rattle.machine.specs.declared.course.Pass.{Pass}
-use Rattle.machine.specs.declared.course.Pass.the-variants.{Again, Over}
-use Rattle.machine.specs.Course.{mark, pushed, popped, repeated, bareRepeated, noLoops, passOf, reached, goneOn, openedOf, closedBy, closedBare, closedOf}
+use Rattle.buffer.specs.declared.course.State.{State}
+use Rattle.buffer.specs.declared.course.State.the-variants.{Empty, Stored, Running, Stopped, Done}
+use Rattle.buffer.specs.declared.course.Loops.{Loops}
+use Rattle.buffer.specs.declared.course.Course.{Course}
+use Rattle.buffer.specs.declared.course.Pass.{Pass}
+use Rattle.buffer.specs.declared.course.Pass.the-variants.{Again, Over}
+use Rattle.buffer.specs.Course.{mark, pushed, popped, repeated, bareRepeated, noLoops, passOf, reached, goneOn, openedOf, closedBy, closedBare, closedOf}
 use Rattle.machine.specs.declared.step.Core.{Core}
-use Rattle.machine.specs.declared.buffer.Action.{Action}
-use Rattle.machine.specs.declared.buffer.Action.the-variants as A
-use Rattle.machine.specs.declared.buffer.Order.{Order}
-use Rattle.machine.specs.declared.buffer.Order.the-variants as O
+use Rattle.buffer.specs.declared.order.Action.{Action}
+use Rattle.buffer.specs.declared.order.Action.the-variants as A
+use Rattle.buffer.specs.declared.order.Order.{Order}
+use Rattle.buffer.specs.declared.order.Order.the-variants as O
 use Rattle.machine.specs.declared.Device.{Device}
 use Rattle.machine.specs.Step.{appliedOf, takenOf, carriedOn, activeOf, stepOf}
-use Rattle.machine.specs.Buffer.{orderOf, halted, haltOf, stopOf, doneOf, laidBy, storedBy, actedOf, actOf, textOf}
+use Rattle.buffer.specs.Course.{halted}
+use Rattle.buffer.specs.Order.{orderOf, laidBy, storedBy}
+use Rattle.machine.specs.Act.{haltOf, stopOf, doneOf, actedOf, actOf, textOf}
 use Rattle.machine.specs.Valid.{Ready}
 use Rattle.text.proofs.Joins.{moved, joined-texts-read, joined-texts-loop}
 use Rattle.machine.specs.Device.{freshOf, tickOf, haltedOf}

@@ -20,8 +20,8 @@ use Rattle.text.specs.declared.loops.Level.the-variants.{At, Broken}
 use Rattle.text.specs.Text.{Step, Reading, reads, wrong, thenRead}
 use Rattle.text.specs.Loops.{opens, closes, plain, partOf, levelOf, follow, levels, commands}
 use Rattle.text.proofs.Places.{readAt, read-refused, read-command}
-use Rattle.machine.specs.declared.course.Loops.{Loops}
-use Rattle.machine.specs.Course.{mark, pushed, popped, repeated, bareRepeated}
+use Rattle.buffer.specs.declared.course.Loops.{Loops}
+use Rattle.buffer.specs.Course.{mark, pushed, popped, repeated, bareRepeated}
 use Rattle.machine.specs.OnCourse.{Leads, at-once, behind, Stands, Rounds, startsOf, OnWay}
 
 -- the command at a place, and where it leads

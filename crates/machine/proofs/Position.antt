@@ -29,18 +29,20 @@ use Rattle.motion.specs.declared.Target.{Target}
 use Rattle.motion.specs.declared.Target.the-variants.{At, Outside}
 use Rattle.motion.specs.Events.{Turn}
 use Rattle.motion.specs.Motion.{laterOf, plungerOf, homeOf, within, targetOf, setOut, eventOf, aimed, moveOf, delayOf, effectOf, carried, onwardOf, cutOf, resetOf}
-use Rattle.machine.specs.declared.course.State.{State}
-use Rattle.machine.specs.declared.course.State.the-variants.{Empty, Stored, Running, Stopped, Done}
-use Rattle.machine.specs.declared.course.Loops.{Loops}
-use Rattle.machine.specs.declared.course.Course.{Course}
+use Rattle.buffer.specs.declared.course.State.{State}
+use Rattle.buffer.specs.declared.course.State.the-variants.{Empty, Stored, Running, Stopped, Done}
+use Rattle.buffer.specs.declared.course.Loops.{Loops}
+use Rattle.buffer.specs.declared.course.Course.{Course}
 use Rattle.machine.specs.declared.step.Core.{Core}
-use Rattle.machine.specs.declared.buffer.Action.{Action}
-use Rattle.machine.specs.declared.buffer.Action.the-variants as A
-use Rattle.machine.specs.declared.buffer.Order.{Order}
-use Rattle.machine.specs.declared.buffer.Order.the-variants as O
-use Rattle.machine.specs.Course.{reached, goneOn, openedOf, closedOf}
+use Rattle.buffer.specs.declared.order.Action.{Action}
+use Rattle.buffer.specs.declared.order.Action.the-variants as A
+use Rattle.buffer.specs.declared.order.Order.{Order}
+use Rattle.buffer.specs.declared.order.Order.the-variants as O
+use Rattle.buffer.specs.Course.{reached, goneOn, openedOf, closedOf}
 use Rattle.machine.specs.Step.{core, appliedOf, takenOf, carriedOn, activeOf, stepOf}
-use Rattle.machine.specs.Buffer.{orderOf, codeOf, halted, haltOf, stopOf, doneOf, actedOf, actOf}
+use Rattle.buffer.specs.Course.{halted}
+use Rattle.buffer.specs.Order.{orderOf, codeOf}
+use Rattle.machine.specs.Act.{haltOf, stopOf, doneOf, actedOf, actOf}
 use Rattle.machine.specs.History.{Sum, counted, addedUp, IsSum, moving}
 use Rattle.machine.proofs.Looping.{behind-open, behind-close}
 

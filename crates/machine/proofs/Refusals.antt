@@ -10,14 +10,15 @@ use lib.Dec.{ltb}
 use lib.ListN.{length, take}
 use Rattle.basics.specs.Choice.{if_then_else_}
 use Rattle.motion.specs.declared.Activity.the-variants.{Initialising, Moving, Delaying, Between}
-use Rattle.machine.specs.declared.course.State.{State}
-use Rattle.machine.specs.declared.course.State.the-variants.{Empty, Stored, Running, Stopped, Done}
+use Rattle.buffer.specs.declared.course.State.{State}
+use Rattle.buffer.specs.declared.course.State.the-variants.{Empty, Stored, Running, Stopped, Done}
 use Rattle.machine.specs.declared.step.Core.{Core}
-use Rattle.machine.specs.declared.buffer.Action.{Action}
-use Rattle.machine.specs.declared.buffer.Action.the-variants as A
-use Rattle.machine.specs.declared.buffer.Order.{Order}
-use Rattle.machine.specs.declared.buffer.Order.the-variants as O
-use Rattle.machine.specs.Buffer.{orderOf, sized, codeOf, storedBy, coreError, actedOf, actOf, textOf}
+use Rattle.buffer.specs.declared.order.Action.{Action}
+use Rattle.buffer.specs.declared.order.Action.the-variants as A
+use Rattle.buffer.specs.declared.order.Order.{Order}
+use Rattle.buffer.specs.declared.order.Order.the-variants as O
+use Rattle.buffer.specs.Order.{orderOf, sized, codeOf, storedBy}
+use Rattle.machine.specs.Act.{coreError, actedOf, actOf, textOf}
 use Rattle.machine.specs.Refusals.{answerOf, NothingToRun, run-empty, run-done, again-empty, again-stored, again-stopped, again-delaying, initialising, moving, between, Busy, store, clear, launch, run, again, lengthBy, loopsBy, TooMuch, busy, long, WrongLoops, Exactly}
 
 -- "a refusal changes nothing but the last error"

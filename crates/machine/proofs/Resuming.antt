@@ -8,14 +8,16 @@ use Rattle.motion.specs.declared.Body.{Body}
 use Rattle.motion.specs.declared.Activity.{Activity}
 use Rattle.motion.specs.declared.Activity.the-variants.{Initialising, Moving, Delaying, Between}
 use Rattle.motion.specs.Motion.{bodyFor, atPlunger, cutOf}
-use Rattle.machine.specs.declared.course.State.the-variants.{Running, Stopped}
-use Rattle.machine.specs.declared.course.Course.{Course}
-use Rattle.machine.specs.declared.course.Pass.the-variants.{Again}
+use Rattle.buffer.specs.declared.course.State.the-variants.{Running, Stopped}
+use Rattle.buffer.specs.declared.course.Course.{Course}
+use Rattle.buffer.specs.declared.course.Pass.the-variants.{Again}
 use Rattle.machine.specs.declared.step.Core.{Core}
-use Rattle.machine.specs.declared.buffer.Action.the-variants as A
-use Rattle.machine.specs.Course.{courseOf, inState, passOf, reached, closedBy, closedBare, closedOf}
+use Rattle.buffer.specs.declared.order.Action.the-variants as A
+use Rattle.buffer.specs.Course.{courseOf, inState, passOf, reached, closedBy, closedBare, closedOf}
 use Rattle.machine.specs.Step.{core}
-use Rattle.machine.specs.Buffer.{orderOf, codeOf, halted, haltOf, stopOf, doneOf, actedOf, actOf}
+use Rattle.buffer.specs.Course.{halted}
+use Rattle.buffer.specs.Order.{orderOf, codeOf}
+use Rattle.machine.specs.Act.{haltOf, stopOf, doneOf, actedOf, actOf}
 use Rattle.machine.specs.History.{inMotion}
 
 -- T: the exact position "is the plunger's" after a cut movement; "T without movement doesn't touch it"

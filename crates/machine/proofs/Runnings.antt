@@ -18,12 +18,13 @@ use Rattle.text.specs.Text.{Step, Reading, reads, wrong, readFrom, readOf}
 use Rattle.text.specs.Loops.{levelOf, levels, loopsOk}
 use Rattle.motion.specs.declared.Activity.the-variants.{Between}
 use Rattle.motion.specs.Motion as Motion
-use Rattle.machine.specs.declared.course.State.{State}
-use Rattle.machine.specs.declared.course.State.the-variants.{Empty, Running, Done}
-use Rattle.machine.specs.declared.buffer.Action.the-variants.{Launch}
-use Rattle.machine.specs.Course.{passOf, reached, goneOn, openedOf, closedBy, closedBare, closedOf}
+use Rattle.buffer.specs.declared.course.State.{State}
+use Rattle.buffer.specs.declared.course.State.the-variants.{Empty, Running, Done}
+use Rattle.buffer.specs.declared.order.Action.the-variants.{Launch}
+use Rattle.buffer.specs.Course.{passOf, reached, goneOn, openedOf, closedBy, closedBare, closedOf}
 use Rattle.machine.specs.Step as Step
-use Rattle.machine.specs.Buffer.{orderOf, sized, codeOf, doneOf, laidBy, storedBy, actedOf, actOf, textOf}
+use Rattle.buffer.specs.Order.{orderOf, sized, codeOf, laidBy, storedBy}
+use Rattle.machine.specs.Act.{doneOf, actedOf, actOf, textOf}
 use Rattle.machine.specs.Device.{freshOf, tickOf}
 use Rattle.machine.specs.History.{Call, callOf, afterOf, after}
 use Rattle.machine.specs.History.Call.{tick, act}

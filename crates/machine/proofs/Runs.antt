@@ -7,8 +7,8 @@ use native.Mathlib.Numerals.{sub-one}
 use native.Mathlib.Omega.{arith}
 use Rattle.basics.specs.Choice.{if_then_else_}
 use Rattle.basics.proofs.Choice.{by}
-use Rattle.machine.specs.declared.course.State.{State}
-use Rattle.machine.specs.declared.course.State.the-variants as State
+use Rattle.buffer.specs.declared.course.State.{State}
+use Rattle.buffer.specs.declared.course.State.the-variants as State
 use Rattle.machine.specs.declared.step.Core.{Core}
 use Rattle.machine.specs.Step.{activeOf, stepOf}
 use Rattle.machine.specs.Run.{readyIn, readyOf, ticksOf, usedOf}

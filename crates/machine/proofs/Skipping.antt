@@ -14,11 +14,11 @@ use Rattle.motion.specs.declared.Activity.the-variants.{Initialising, Moving, D
 use Rattle.motion.specs.Bounds.{TravelOk, ActivityOk}
 use Rattle.motion.specs.Motion.{laterOf, plungerOf, bodyAt, carried}
 use Rattle.motion.proofs.Keeps.{not-arrived}
-use Rattle.machine.specs.declared.course.State.{State}
-use Rattle.machine.specs.declared.course.State.the-variants.{Empty, Stored, Running, Stopped, Done}
+use Rattle.buffer.specs.declared.course.State.{State}
+use Rattle.buffer.specs.declared.course.State.the-variants.{Empty, Stored, Running, Stopped, Done}
 use Rattle.machine.specs.declared.step.Core.{Core}
 use Rattle.machine.specs.declared.step.Ticked.{Ticked}
-use Rattle.machine.specs.Course.{inState}
+use Rattle.buffer.specs.Course.{inState}
 use Rattle.machine.specs.Step.{core, stepOf}
 use Rattle.machine.specs.Run.{readyOf, ticksOf}
 use Rattle.machine.specs.Valid.{StateOk, Valid, Ready}

@@ -16,11 +16,11 @@ use Rattle.command.specs.declared.Refusal.{Refusal}
 use Rattle.command.specs.declared.Found.{Found}
 use Rattle.command.specs.declared.Found.the-variants as F
 use Rattle.command.specs.Command.{refusalNumber, commandAt}
-use Rattle.machine.specs.declared.course.State.{State}
-use Rattle.machine.specs.declared.course.State.the-variants.{Running}
-use Rattle.machine.specs.declared.course.Course.{Course}
+use Rattle.buffer.specs.declared.course.State.{State}
+use Rattle.buffer.specs.declared.course.State.the-variants.{Running}
+use Rattle.buffer.specs.declared.course.Course.{Course}
 use Rattle.machine.specs.declared.step.Core.{Core}
-use Rattle.machine.specs.Course.{reached, goneOn, failedOf, openedOf, closedOf}
+use Rattle.buffer.specs.Course.{reached, goneOn, failedOf, openedOf, closedOf}
 use Rattle.machine.specs.Step.{core, appliedOf, takenOf, carriedOn, activeOf, stepOf}
 use Rattle.machine.specs.Run.{readyIn}
 use Rattle.machine.specs.Valid.{StateOk, Valid, Ready, Ticking}

@@ -9,10 +9,11 @@ use lib.ListN.{length, take, drop, length-append}
 use lib.Seq.{take-at, length-take-le}
 use Rattle.basics.specs.Lay.{over, fits, laidIn}
 use Rattle.machine.specs.declared.step.Core.{Core}
-use Rattle.machine.specs.declared.buffer.Action.{Action}
-use Rattle.machine.specs.declared.buffer.Order.{Order}
-use Rattle.machine.specs.declared.buffer.Order.the-variants as O
-use Rattle.machine.specs.Buffer.{orderOf, doneOf, laidBy, storedBy, actedOf, actOf, textOf}
+use Rattle.buffer.specs.declared.order.Action.{Action}
+use Rattle.buffer.specs.declared.order.Order.{Order}
+use Rattle.buffer.specs.declared.order.Order.the-variants as O
+use Rattle.buffer.specs.Order.{orderOf, laidBy, storedBy}
+use Rattle.machine.specs.Act.{doneOf, actedOf, actOf, textOf}
 use Rattle.machine.specs.Valid.{Ready}
 use Rattle.machine.specs.Refusals.{answerOf}
 use Rattle.machine.proofs.Refusals.{what-is-accepted-fits}

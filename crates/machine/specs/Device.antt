@@ -6,16 +6,16 @@ use lib.ListN.{replicate}
 use Rattle.basics.specs.Choice.{if_then_else_}
 use Rattle.motion.specs.Events.{Turn}
 use Rattle.motion.specs.Motion.{freshBody}
-use Rattle.machine.specs.declared.course.State.the-variants.{Empty}
+use Rattle.buffer.specs.declared.course.State.the-variants.{Empty}
 use Rattle.machine.specs.declared.step.Core.{Core}
 use Rattle.machine.specs.declared.Device.{Device}
 use Rattle.machine.specs.declared.Used.{Used}
 use Rattle.machine.specs.declared.Used.the-variants.{Ticks, S3}
 use Rattle.machine.specs.declared.Ran.{Ran}
-use Rattle.machine.specs.Course.{courseOf, noLoops}
+use Rattle.buffer.specs.Course.{courseOf, noLoops}
 use Rattle.machine.specs.Step.{core, stepOf}
 use Rattle.machine.specs.Run.{ticksOf, usedOf}
-use Rattle.machine.specs.Buffer.{stopOf}
+use Rattle.machine.specs.Act.{stopOf}
 
 abbrev pub device : List ℕ → Core → Device
 device text c = record { text = text; core = c }

@@ -7,11 +7,11 @@ use Rattle.settings.specs.Units.{millionthsOf}
 use Rattle.motion.specs.declared.Activity.{Activity}
 use Rattle.motion.specs.declared.Activity.the-variants.{Initialising, Moving, Delaying, Between}
 use Rattle.motion.specs.Events.{Event, start, volume, Turn}
-use Rattle.machine.specs.declared.course.State.{State}
-use Rattle.machine.specs.declared.course.State.the-variants.{Empty, Stored, Running, Stopped, Done}
-use Rattle.machine.specs.declared.buffer.Action.{Action}
+use Rattle.buffer.specs.declared.course.State.{State}
+use Rattle.buffer.specs.declared.course.State.the-variants.{Empty, Stored, Running, Stopped, Done}
+use Rattle.buffer.specs.declared.order.Action.{Action}
 use Rattle.machine.specs.declared.Device.{Device}
-use Rattle.machine.specs.Buffer.{actOf, textOf}
+use Rattle.machine.specs.Act.{actOf, textOf}
 use Rattle.machine.specs.Device.{device, freshOf, tickOf, haltedOf}
 
 -- a call on a device: a tick, an action with the characters that come with it, the stop

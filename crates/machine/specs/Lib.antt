@@ -1,7 +1,6 @@
-pub mod Course
 pub mod Step
 pub mod Run
-pub mod Buffer
+pub mod Act
 pub mod Valid
 pub mod Device
 pub mod History

@@ -6,9 +6,9 @@ use Rattle.settings.specs.Units.{ticksFor}
 use Rattle.motion.specs.declared.Travel.{Travel}
 use Rattle.motion.specs.declared.Activity.{Activity}
 use Rattle.motion.specs.Motion.{plungerOf, bodyAt, bodyKnown}
-use Rattle.machine.specs.declared.course.State.the-variants.{Running}
+use Rattle.buffer.specs.declared.course.State.the-variants.{Running}
 use Rattle.machine.specs.declared.step.Core.{Core}
-use Rattle.machine.specs.Course.{inState, reached}
+use Rattle.buffer.specs.Course.{inState, reached}
 use Rattle.machine.specs.Step.{core}
 
 -- how far it is from a place to another: the one or the other difference is 0

@@ -19,14 +19,14 @@ use Rattle.command.specs.Command.{commandAt}
 use Rattle.text.specs.declared.loops.Level.the-variants.{At}
 use Rattle.text.specs.Text.{Step, reads, readFrom, readOf}
 use Rattle.text.specs.Loops.{opens, closes, partOf, levelOf, levels, commands}
-use Rattle.machine.specs.declared.course.State.{State}
-use Rattle.machine.specs.declared.course.State.the-variants.{Empty, Stored, Running, Stopped, Done}
-use Rattle.machine.specs.declared.course.Loops.{Loops}
-use Rattle.machine.specs.declared.course.Course.{Course}
+use Rattle.buffer.specs.declared.course.State.{State}
+use Rattle.buffer.specs.declared.course.State.the-variants.{Empty, Stored, Running, Stopped, Done}
+use Rattle.buffer.specs.declared.course.Loops.{Loops}
+use Rattle.buffer.specs.declared.course.Course.{Course}
 use Rattle.machine.specs.declared.step.Core.{Core}
-use Rattle.machine.specs.declared.buffer.Action.the-variants as A
+use Rattle.buffer.specs.declared.order.Action.the-variants as A
 use Rattle.machine.specs.declared.Device.{Device}
-use Rattle.machine.specs.Course.{failedOf}
+use Rattle.buffer.specs.Course.{failedOf}
 use Rattle.machine.specs.Step.{core, stepOf}
 use Rattle.machine.specs.History.{Call, tick, act, stop}
 

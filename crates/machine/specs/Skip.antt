@@ -5,11 +5,11 @@ use mathlib.Core.List.{List}
 use Rattle.motion.specs.declared.Travel.{Travel}
 use Rattle.motion.specs.declared.Activity.{Activity}
 use Rattle.motion.specs.declared.Activity.the-variants.{Initialising, Moving, Delaying, Between}
-use Rattle.machine.specs.declared.course.State.{State}
-use Rattle.machine.specs.declared.course.State.the-variants.{Empty, Stored, Running, Stopped, Done}
+use Rattle.buffer.specs.declared.course.State.{State}
+use Rattle.buffer.specs.declared.course.State.the-variants.{Empty, Stored, Running, Stopped, Done}
 use Rattle.machine.specs.declared.step.Core.{Core}
 use Rattle.machine.specs.declared.step.Ticked.{Ticked}
-use Rattle.machine.specs.Course.{inState}
+use Rattle.buffer.specs.Course.{inState}
 use Rattle.machine.specs.Step.{core, stepOf}
 use Rattle.machine.specs.Movement.{timeOf, since}
 

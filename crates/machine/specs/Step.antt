@@ -13,11 +13,11 @@ use Rattle.motion.specs.Motion.{effectOf, onwardOf}
 use Rattle.command.specs.declared.Found.{Found}
 use Rattle.command.specs.declared.Found.the-variants as F
 use Rattle.command.specs.Command.{refusalNumber, commandAt}
-use Rattle.machine.specs.declared.course.State.{State}
-use Rattle.machine.specs.declared.course.State.the-variants.{Empty, Stored, Running, Stopped, Done}
-use Rattle.machine.specs.declared.course.Course.{Course}
+use Rattle.buffer.specs.declared.course.State.{State}
+use Rattle.buffer.specs.declared.course.State.the-variants.{Empty, Stored, Running, Stopped, Done}
+use Rattle.buffer.specs.declared.course.Course.{Course}
 use Rattle.machine.specs.declared.step.Core.{Core}
-use Rattle.machine.specs.Course.{reached, goneOn, failedOf, openedOf, closedOf}
+use Rattle.buffer.specs.Course.{reached, goneOn, failedOf, openedOf, closedOf}
 
 abbrev pub core : Body → Course → Core
 core b c = record { body = b; course = c }

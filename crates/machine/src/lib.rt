@@ -1,12 +1,11 @@
-// The command buffer and the step machine: what a tick, a string and a control do.
-pub mod buffer;
-pub mod course;
+// The step machine: what a tick, a string and a control do to the plunger and the buffer.
+pub mod act;
 pub mod skip;
 pub mod step;
 
-use course::Course;
-use course::Loops;
-use course::State;
+use buffer::course::Course;
+use buffer::course::Loops;
+use buffer::course::State;
 use motion::Body;
 use step::Core;
 ghost use mathlib.Core.Path.{_≡_};

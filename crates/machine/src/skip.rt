@@ -1,8 +1,8 @@
 // A movement's ticks before the one in which it arrives, passed over at once: where the plunger is follows from their count.
-use crate::course::Course;
-use crate::course::State;
 use crate::step::Core;
 use crate::step::Ticked;
+use buffer::course::Course;
+use buffer::course::State;
 use motion::Activity;
 use motion::Travel;
 ghost use mathlib.Core.Path.{_≡_};

@@ -1,6 +1,6 @@
 // One tick, and many.
-use crate::course::Course;
-use crate::course::State;
+use buffer::course::Course;
+use buffer::course::State;
 use command::Found;
 use motion::Activity;
 use motion::Body;

@@ -15,19 +15,20 @@ pub is-made : (a : Address) (d : Device) → d ≡ freshOf .next → record { ad
 unfolding madeOf
 is-made a d e = rw e
 
-module _ (k : Controller) (d : Device) where
-  pub is-ticked : d ≡ tickOf (k .device) .next → on d k ≡ tickedOf k .next
+module _ (k r : Controller) (d : Device) (p : r ≡ on d k) where
+  pub is-ticked : d ≡ tickOf (k .device) .next → r ≡ tickedOf k .next
   unfolding tickedOf
-  is-ticked e = rw e
+  is-ticked e = rw (← e) p
 
-  pub is-stopped : d ≡ haltedOf (k .device) .next → on d k ≡ stoppedOf k .next
+  pub is-stopped : d ≡ haltedOf (k .device) .next → r ≡ stoppedOf k .next
   unfolding stoppedOf
-  is-stopped e = rw e
+  is-stopped e = rw (← e) p
 
-  pub is-advanced : (n : ℕ) → d ≡ advanceOf n (k .device) → on d k ≡ advancedOf n k
+  pub is-advanced : (n : ℕ) → d ≡ advanceOf n (k .device) → r ≡ advancedOf n k
   unfolding advancedOf
-  is-advanced n e = rw e
+  is-advanced n e = rw (← e) p
 
-pub is-run : (n : ℕ) (k : Controller) (r : Machine.Ran) → r ≡ ranOf n (k .device) → record { controller = on (r .device) k; used = r .used } ≡ runOf n k
+pub is-run :
+    (n : ℕ) (k c : Controller) (r : Machine.Ran) → c ≡ on (r .device) k → r ≡ ranOf n (k .device) → record { controller = c; used = r .used } ≡ runOf n k
 unfolding runOf
-is-run n k r e = rw e
+is-run n k c r p e = rw (p, e)

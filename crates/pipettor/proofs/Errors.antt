@@ -28,19 +28,21 @@ use Rattle.motion.specs.declared.Target.{Target}
 use Rattle.motion.specs.declared.Target.the-variants.{At, Outside}
 use Rattle.motion.specs.Events.{Turn}
 use Rattle.motion.specs.Motion.{homeOf, targetOf, setOut, aimed, moveOf, delayOf, effectOf, onwardOf}
-use Rattle.machine.specs.declared.course.State.{State}
-use Rattle.machine.specs.declared.course.State.the-variants.{Empty, Stored, Running, Stopped, Done}
-use Rattle.machine.specs.declared.course.Course.{Course}
-use Rattle.machine.specs.declared.course.Pass.{Pass}
-use Rattle.machine.specs.declared.course.Pass.the-variants.{Again, Over}
+use Rattle.buffer.specs.declared.course.State.{State}
+use Rattle.buffer.specs.declared.course.State.the-variants.{Empty, Stored, Running, Stopped, Done}
+use Rattle.buffer.specs.declared.course.Course.{Course}
+use Rattle.buffer.specs.declared.course.Pass.{Pass}
+use Rattle.buffer.specs.declared.course.Pass.the-variants.{Again, Over}
 use Rattle.machine.specs.declared.step.Core.{Core}
-use Rattle.machine.specs.declared.buffer.Action.{Action}
-use Rattle.machine.specs.declared.buffer.Action.the-variants as A
-use Rattle.machine.specs.declared.buffer.Order.{Order}
-use Rattle.machine.specs.declared.buffer.Order.the-variants as O
-use Rattle.machine.specs.Course.{reached, passOf, goneOn, openedOf, closedBy, closedBare, closedOf}
+use Rattle.buffer.specs.declared.order.Action.{Action}
+use Rattle.buffer.specs.declared.order.Action.the-variants as A
+use Rattle.buffer.specs.declared.order.Order.{Order}
+use Rattle.buffer.specs.declared.order.Order.the-variants as O
+use Rattle.buffer.specs.Course.{reached, passOf, goneOn, openedOf, closedBy, closedBare, closedOf}
 use Rattle.machine.specs.Step.{appliedOf, takenOf, carriedOn, activeOf, stepOf}
-use Rattle.machine.specs.Buffer.{orderOf, sized, codeOf, halted, haltOf, stopOf, actedOf}
+use Rattle.buffer.specs.Course.{halted}
+use Rattle.buffer.specs.Order.{orderOf, sized, codeOf}
+use Rattle.machine.specs.Act.{haltOf, stopOf, actedOf}
 use Rattle.pipettor.specs.declared.acting.Got.{Got}
 use Rattle.pipettor.specs.declared.acting.Got.the-variants as G
 use Rattle.pipettor.specs.declared.acting.Task.{Task}

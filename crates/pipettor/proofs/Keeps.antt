@@ -15,7 +15,7 @@ use Rattle.machine.specs.declared.step.Core.{Core}
 use Rattle.machine.specs.declared.Ran as Machine
 use Rattle.machine.specs.Step.{stepOf}
 use Rattle.machine.specs.Run.{ticksOf, usedOf}
-use Rattle.machine.specs.Buffer.{codeOf, storedBy}
+use Rattle.buffer.specs.Order.{codeOf, storedBy}
 use Rattle.machine.specs.Device.{freshOf, tickOf, haltedOf, advanceOf, ranOf}
 use Rattle.machine.specs.Valid as Core
 use Rattle.machine.proofs.Keeps.{step-keeps}

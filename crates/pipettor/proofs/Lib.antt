@@ -1,4 +1,3 @@
-pub mod Telling
 pub mod Tasks
 pub mod Frames
 pub mod Controllers

@@ -16,14 +16,14 @@ use Rattle.line.specs.declared.Report.{Report}
 use Rattle.line.specs.declared.Said as Line
 use Rattle.line.specs.declared.Said.the-variants as L
 use Rattle.line.specs.Answer.{statusOf, answerOf, Answered}
-use Rattle.machine.specs.declared.course.State.{State}
+use Rattle.buffer.specs.declared.course.State.{State}
 use Rattle.machine.specs.declared.step.Core.{Core}
-use Rattle.machine.specs.declared.buffer.Action.{Action}
-use Rattle.machine.specs.declared.buffer.Order.{Order}
-use Rattle.machine.specs.declared.buffer.Order.the-variants as O
-use Rattle.machine.specs.Buffer.{orderOf}
+use Rattle.buffer.specs.declared.order.Action.{Action}
+use Rattle.buffer.specs.declared.order.Order.{Order}
+use Rattle.buffer.specs.declared.order.Order.the-variants as O
+use Rattle.buffer.specs.Order.{orderOf}
 use Rattle.pipettor.specs.declared.address.Address.{Address}
-use Rattle.pipettor.specs.declared.reports.Told.{Told}
+use Rattle.reports.specs.declared.Told.{Told}
 use Rattle.pipettor.specs.declared.acting.Got.{Got}
 use Rattle.pipettor.specs.declared.acting.Got.the-variants as G
 use Rattle.pipettor.specs.declared.acting.Task.{Task}
@@ -32,7 +32,8 @@ use Rattle.pipettor.specs.declared.acting.Outcome.{Outcome}
 use Rattle.pipettor.specs.declared.acting.Outcome.the-variants.{Mute, Tell}
 use Rattle.pipettor.specs.declared.Said.{Said}
 use Rattle.pipettor.specs.declared.Said.the-variants.{Silent, Answer, S1}
-use Rattle.pipettor.specs.Reports.{toldOf}
+use Rattle.reports.specs.Reports.{tellOf}
+use Rattle.pipettor.specs.Address.{letterOf}
 use Rattle.pipettor.specs.Byte.{actionOf, stringAction, taskOf, taskCode, taskDone, taskText, toldCode, outcomeOf, saidOf, writtenOf, Spoken}
 
 -- by the case at hand
@@ -79,10 +80,11 @@ task-wrong d s x code p q = rw (p, q)
 
 -- a report's answer
 pub outcome-report :
-    (d : Data) (q : Question) (a : Address) (code : ℕ) (c : Core) (t : Told) (r : Outcome) →
-    d ≡ D.Report q → t ≡ toldOf q a c → r ≡ toldCode t (c .course .error) → r ≡ outcomeOf (G.Data d) a code c
+    (d : Data) (q : Question) (a : Address) (ours code : ℕ) (c : Core) (t : Told) (r : Outcome) →
+    d ≡ D.Report q → ours ≡ letterOf a → t ≡ tellOf q ours (c .body) (c .course .state) (c .course .error) →
+    r ≡ toldCode t (c .course .error) → r ≡ outcomeOf (G.Data d) a code c
 unfolding outcomeOf
-outcome-report d q a code c t r p k e = rw (p, ← k) e
+outcome-report d q a ours code c t r p l k e = rw (p, ← l, ← k) e
 
 -- what is said
 pub spoken-case : (o j : Outcome) (ready : Bool) (before : List ℕ) (r : Said) (after : List ℕ) → o ≡ j → Spoken j ready before r after → Spoken o ready before r after

@@ -1,7 +1,7 @@
 -- From a byte received to the bytes answered: the layers' own definitions, one after the other.
 use Prim.Native.Nat.{ℕ}
 use mathlib.Core.Bool.{Bool, true, false}
-use mathlib.Core.List.{List, []}
+use mathlib.Core.List.{List}
 use mathlib.Core.Path.{_≡_}
 use lib.Dec.{ltb, eqb}
 use lib.ListN.{length, take}
@@ -21,17 +21,18 @@ use Rattle.line.specs.declared.Deed.the-variants as W
 use Rattle.line.specs.Wire.{hearOf, keepOf}
 use Rattle.line.specs.Answer.{statusOf, answerOf}
 use Rattle.motion.specs.Events.{Turn, quiet}
-use Rattle.machine.specs.declared.course.State.{State}
+use Rattle.buffer.specs.declared.course.State.{State}
 use Rattle.machine.specs.declared.step.Core.{Core}
-use Rattle.machine.specs.declared.buffer.Action.{Action}
-use Rattle.machine.specs.declared.buffer.Action.the-variants as A
-use Rattle.machine.specs.declared.buffer.Order.the-variants as O
+use Rattle.buffer.specs.declared.order.Action.{Action}
+use Rattle.buffer.specs.declared.order.Action.the-variants as A
+use Rattle.buffer.specs.declared.order.Order.the-variants as O
 use Rattle.machine.specs.Run.{readyOf}
-use Rattle.machine.specs.Buffer.{orderOf, codeOf, actedOf, storedBy}
+use Rattle.buffer.specs.Order.{orderOf, codeOf, storedBy}
+use Rattle.machine.specs.Act.{actedOf}
 use Rattle.machine.specs.Device.{device}
 use Rattle.pipettor.specs.declared.address.Address.{Address}
-use Rattle.pipettor.specs.declared.reports.Told.{Told}
-use Rattle.pipettor.specs.declared.reports.Told.the-variants.{Says, No}
+use Rattle.reports.specs.declared.Told.{Told}
+use Rattle.reports.specs.declared.Told.the-variants.{Says, No}
 use Rattle.pipettor.specs.declared.acting.Got.{Got}
 use Rattle.pipettor.specs.declared.acting.Got.the-variants as G
 use Rattle.pipettor.specs.declared.acting.Task.{Task}
@@ -43,7 +44,7 @@ use Rattle.pipettor.specs.declared.Said.{Said}
 use Rattle.pipettor.specs.declared.Said.the-variants.{Silent, Answer, S1}
 use Rattle.pipettor.specs.declared.Reply.{Reply}
 use Rattle.pipettor.specs.Address.{letterOf}
-use Rattle.pipettor.specs.Reports.{toldOf}
+use Rattle.reports.specs.Reports.{tellOf}
 
 -- the data of a frame to us: "more than 320 data bytes, spaces counted (15)" come first
 unfoldable pub fetchedOf : ℕ → List ℕ → Got
@@ -121,6 +122,9 @@ taskText (T.Do order) code len added text = storedBy order code len added text
 abbrev pub toldCode : Told → ℕ → Outcome
 toldCode (Says report) error = Tell report error
 toldCode No error = Tell Nothing 3
+
+abbrev pub toldOf : Question → Address → Core → Told
+toldOf q address c = tellOf q (letterOf address) (c .body) (c .course .state) (c .course .error)
 
 unfoldable pub outcomeOf : Got → Address → ℕ → Core → Outcome
 outcomeOf G.Nothing address code c = Mute

@@ -1,21 +1,20 @@
 // From a frame's data to what the buffer does and what is answered.
 use crate::Said;
 use crate::address::Address;
-use crate::reports;
-use crate::reports::Told;
+use buffer::course::State;
+use buffer::order;
+use buffer::order::Action;
+use buffer::order::Order;
 use line::Deed;
 use line::Report;
-use machine::buffer;
-use machine::buffer::Action;
-use machine::buffer::Order;
-use machine::course::State;
 use machine::step::Core;
+use reports::Told;
 use text::Control;
 use text::Data;
 ghost use mathlib.Core.Path.{_≡_};
 ghost use Prim.Native.Nat.{_+_, _≤_, _<_, _^_};
 ghost use lib.ListN.{length};
-ghost use Rattle.pipettor.specs.Valid.{Tellable};
+ghost use Rattle.reports.specs.Reports.{Tellable};
 ghost use Rattle.pipettor.specs.Byte.{actionOf, stringAction, taskOf, sizeOf, taskCode, taskDone, taskText, toldCode, outcomeOf, Fetched, Gotten, Spoken};
 
 // No frame to us, or its data.
@@ -158,32 +157,36 @@ impl Task {
     {
         match self {
             Task::Leave => {}
-            Task::Do(order) => buffer::store(order, code, len, added, text),
+            Task::Do(order) => order::store(order, code, len, added, text),
         }
     }
 }
 
-impl Told {
-    fn outcome(self, error: u8) -> Outcome
-        ensures { λ r. ⌜ r ≡ toldCode self error ⌝ }
-    {
-        match self {
-            Told::Says(report) => Outcome::Tell(report, error),
-            Told::No => Outcome::Tell(Report::Nothing, 3),
-        }
+// What is told is answered with the last error, an unknown number with 3.
+fn told(told: Told, error: u8) -> Outcome
+    ensures { λ r. ⌜ r ≡ toldCode told error ⌝ }
+{
+    match told {
+        Told::Says(report) => Outcome::Tell(report, error),
+        Told::No => Outcome::Tell(Report::Nothing, 3),
     }
 }
 
 // What is answered to data, the buffer having answered with a code.
 fn answer_to(data: Data, address: Address, code: u8, c: Core) -> Outcome
-    requires { ⌜ Tellable c ⌝ }
+    requires { ⌜ Tellable (c .body) (c .course .error) ⌝ }
     ensures { λ r. ⌜ r ≡ outcomeOf (Got.Data «data») address code c ⌝ }
 {
     match data {
         Data::Report(q) => {
+            let body = c.body;
             let course = c.course;
+            let state = course.state;
             let error = course.error;
-            reports::tell(q, address, c).outcome(error)
+            told(
+                reports::tell(q, address.letter(), body, state, error),
+                error,
+            )
         }
         Data::WrongReport => Outcome::Tell(Report::Nothing, 3),
         Data::Control(_) => Outcome::Tell(Report::Nothing, code),
@@ -195,7 +198,7 @@ fn answer_to(data: Data, address: Address, code: u8, c: Core) -> Outcome
 
 impl Got {
     pub fn outcome(self, address: Address, code: u8, c: Core) -> Outcome
-        requires { ⌜ Tellable c ⌝ }
+        requires { ⌜ Tellable (c .body) (c .course .error) ⌝ }
         ensures { λ r. ⌜ r ≡ outcomeOf self address code c ⌝ }
     {
         match self {

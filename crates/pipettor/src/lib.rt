@@ -1,7 +1,6 @@
 // The controller of one pipettor: bytes in, answers out, ticks between them.
 mod acting;
 pub mod address;
-mod reports;
 
 use address::Address;
 use line::Line;
@@ -10,7 +9,7 @@ use machine::Used;
 ghost use mathlib.Core.Path.{_≡_};
 ghost use Rattle.pipettor.specs.Valid.{Valid};
 ghost use Rattle.pipettor.specs.Byte.{after, byteOf};
-ghost use Rattle.pipettor.specs.Controller.{madeOf, tickedOf, stoppedOf, advancedOf, runOf};
+ghost use Rattle.pipettor.specs.Controller.{on, madeOf, tickedOf, stoppedOf, advancedOf, runOf};
 ghost use Rattle.pipettor.specs.Listening.{UpToCr, listenedOf};
 
 // The receiver's line and the frame in hand; the buffer, its text and the plunger.
@@ -148,22 +147,27 @@ impl Controller {
         }
     }
 
+    fn on(self, device: Device) -> Controller
+        ensures { λ r. ⌜ r ≡ on device self ⌝ }
+    {
+        let address = self.address;
+        let line = self.line;
+        let frame = self.frame;
+        Controller {
+            address,
+            line,
+            frame,
+            device,
+        }
+    }
+
     // A tick of 10 ms.
     pub fn tick(self) -> Controller
         requires { ⌜ Valid self ⌝ }
         ensures { λ r. ⌜ r ≡ tickedOf self .next ⌝ }
     {
-        let address = self.address;
-        let line = self.line;
-        let frame = self.frame;
         let device = self.device;
-        let after = device.tick();
-        Controller {
-            address,
-            line,
-            frame,
-            device: after,
-        }
+        self.on(device.tick())
     }
 
     // Exactly n ticks, ready or not.
@@ -171,17 +175,8 @@ impl Controller {
         requires { ⌜ Valid self ⌝ }
         ensures { λ r. ⌜ r ≡ advancedOf n self ⌝ }
     {
-        let address = self.address;
-        let line = self.line;
-        let frame = self.frame;
         let device = self.device;
-        let after = device.advance(n);
-        Controller {
-            address,
-            line,
-            frame,
-            device: after,
-        }
+        self.on(device.advance(n))
     }
 
     // Up to n ticks, until ready.
@@ -189,20 +184,12 @@ impl Controller {
         requires { ⌜ Valid self ⌝ }
         ensures { λ r. ⌜ r ≡ runOf n self ⌝ }
     {
-        let address = self.address;
-        let line = self.line;
-        let frame = self.frame;
         let device = self.device;
         let ran = device.run(n);
         let after = ran.device;
         let used = ran.used;
         Ran {
-            controller: Controller {
-                address,
-                line,
-                frame,
-                device: after,
-            },
+            controller: self.on(after),
             used,
         }
     }
@@ -211,16 +198,7 @@ impl Controller {
     pub fn stop(self) -> Controller
         ensures { λ r. ⌜ r ≡ stoppedOf self .next ⌝ }
     {
-        let address = self.address;
-        let line = self.line;
-        let frame = self.frame;
         let device = self.device;
-        let after = device.stop();
-        Controller {
-            address,
-            line,
-            frame,
-            device: after,
-        }
+        self.on(device.stop())
     }
 }

@@ -71,15 +71,19 @@ string text run (Wrong r) = D.Wrong r
 unfoldable pub stringOf : List ℕ → Data
 stringOf t = string (body t) (runs t) (checkOf (body t))
 
--- "Exactly R, T, X, C, !R: a control."
-unfoldable pub controlOf : List ℕ → Data
-controlOf [] = stringOf []
-controlOf (b ∷ []) =
+-- the control that a byte is by itself, or else the string t
+abbrev pub singleOf : ℕ → List ℕ → Data
+singleOf b t =
     if eqb b 82 then D.Control Run
     else if eqb b 84 then D.Control Stop
     else if eqb b 88 then D.Control Again
     else if eqb b 67 then D.Control Clear
-    else stringOf (b ∷ [])
+    else stringOf t
+
+-- "Exactly R, T, X, C, !R: a control."
+unfoldable pub controlOf : List ℕ → Data
+controlOf [] = stringOf []
+controlOf (b ∷ []) = singleOf b (b ∷ [])
 controlOf (b ∷ c ∷ []) = if eqb b 33 && eqb c 82 then D.Control Reset else stringOf (b ∷ c ∷ [])
 controlOf (b ∷ c ∷ d ∷ t) = stringOf (b ∷ c ∷ d ∷ t)
 

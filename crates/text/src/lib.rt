@@ -7,9 +7,8 @@ use operand::Number;
 ghost use mathlib.Core.Path.{_≡_};
 ghost use lib.ListN.{length};
 ghost use Prim.Native.Nat.{_<_};
-ghost use mathlib.Core.List.{[], _∷_};
 ghost use Rattle.text.specs.Text.{checkOf};
-ghost use Rattle.text.specs.Data.{Squeezed, KeptByte, askedOf, report, addressed, string, stringOf, controlOf, dataOf};
+ghost use Rattle.text.specs.Data.{Squeezed, KeptByte, askedOf, report, addressed, string, stringOf, singleOf, controlOf, dataOf};
 
 // A text that reads, or its first wrong place.
 pub enum Checked {
@@ -169,10 +168,9 @@ fn read_string(t: &[u8]) -> Data
     if_it_reads(t, false)
 }
 
-// A single byte that is a control, or a string.
+// The control that a byte is by itself, or a string.
 fn read_single(b: u8, t: &[u8]) -> Data
-    requires { ⌜ now t ≡ b ∷ [] ⌝ }
-    ensures { λ r. ⌜ r ≡ controlOf (now (t .entry)) ⌝ }
+    ensures { λ r. ⌜ r ≡ singleOf b (now (t .entry)) ⌝ }
 {
     match b {
         b'R' => Data::Control(Control::Run),

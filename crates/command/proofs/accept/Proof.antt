@@ -18,4 +18,12 @@ pub accept-spec : {M : Type 1} → statement M
 unfolding takenOf
 accept-spec =
     tie.close
-    (tie.spec (λ c. search laws) (λ c. search laws) (λ c κs. search laws) (λ c. search laws) (λ c. search laws) (λ c. search laws) (λ c. search laws))
+    (tie.spec
+    (λ c. search laws)
+    (λ c κs. search laws)
+    (λ c. search laws)
+    (λ c κs. search laws)
+    (λ c. search laws)
+    (λ c. search laws)
+    (λ c. search laws)
+    (λ c. search laws))

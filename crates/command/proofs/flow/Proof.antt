@@ -13,9 +13,9 @@ use Rattle.command.proofs.flow.Statement.{statement}
 use Rattle.command.proofs.flow.Tie as tie
 
 module _ (pace : Pace) (n : Number) where
-  absent : (u : ℕ) → n ≡ Absent → u ≡ usualSpeed pace → Good u ≡ flowOf pace n
+  absent : (u : ℕ) (r : Taken) → n ≡ Absent → u ≡ usualSpeed pace → r ≡ Good u → r ≡ flowOf pace n
   unfolding flowOf
-  absent u e h = rw (e, h)
+  absent u r e h q = rw e (rw h at q)
 
   written :
       (range : Range) (thousandths decimals : ℕ) (t r : Taken) → n ≡ Is thousandths decimals → range ≡ flowsOf pace →
@@ -34,6 +34,7 @@ flow-spec =
     tie.close
     (tie.spec
     (λ c. search laws)
+    (λ c κs. search laws)
     (λ c κs. search laws)
     (λ c. search laws)
     (λ c κs. search laws)

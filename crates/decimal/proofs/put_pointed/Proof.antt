@@ -29,7 +29,7 @@ unfolding fixedOf
 pointed zero n h = absurd (omega arith)
 pointed (suc d) n h = refl
 
-module _ (d n : ℕ) (some : 0 < d) (few : d ≤ 3) (empty laid : List ℕ) (l : length empty ≡ 14) (e : laid ≡ over (lastDigits d n) (14 - d) empty) where
+module _ (d n : ℕ) (some : 0 < d) (few : d ≤ 3) (empty laid : List ℕ) (e : laid ≡ over (lastDigits d n) (14 - d) empty) (l : length empty ≡ 14) where
   long : length laid ≡ 14
   long = ap length e ∙ length-over (lastDigits d n) (14 - d) empty (omega (arith, length-last d n)) ∙ l
 
@@ -50,10 +50,11 @@ module _ (d n : ℕ) (some : 0 < d) (few : d ≤ 3) (empty laid : List ℕ) (l :
       ∙ rw (getD-set-same laid (13 - d) point 0 within, drop-set-lt (13 - d + 1) laid (13 - d) point (omega arith), next, decimals)
 
   fixed :
-      (unit : ℕ) (scratch buf after : List ℕ) (from at : ℕ) (r : Put) →
-      unit ≡ 10 ^ d → Before (n / unit) (13 - d) (set laid (13 - d) point) from scratch →
-      Laid (take (14 - from) (drop from scratch)) at buf r after → Laid (fixedOf d n) at buf r after
-  fixed unit scratch buf after from at r u b w = from-scratch 14 scratch from (b .long ∙ length-set laid (13 - d) point ∙ long) (b .from ∙ rw (behind, u) (sym (pointed d n some))) w
+      (decimals unit : ℕ) (scratch buf after : List ℕ) (from at : ℕ) (r : Put) →
+      d ≡ decimals → unit ≡ 10 ^ decimals → Before (n / unit) (13 - d) (set laid (13 - d) point) from scratch →
+      Laid (take (14 - from) (drop from scratch)) at buf r after → Laid (fixedOf decimals n) at buf r after
+  fixed decimals unit scratch buf after from at r c u b w =
+      from-scratch 14 scratch from (b .long ∙ length-set laid (13 - d) point ∙ long) (b .from ∙ rw (behind, u, ← c) (sym (pointed d n some))) w
 
 ruleset laws = (needs, positive, room, fixed)
 
@@ -61,10 +62,12 @@ pub put-pointed-spec : {M : Type 1} → statement M
 put-pointed-spec =
     tie.close
     (tie.spec
+    (λ c κs. search needs)
     (λ c. search needs)
     (λ c κs. search needs)
     (λ c. search needs)
     (λ c. search needs)
+    (λ c κs. search needs)
     (λ c. search laws)
     (λ c. search needs)
     (λ c κs. search laws)

@@ -11,14 +11,15 @@ use Rattle.basics.proofs.Rules.{tests}
 use Rattle.text.specs.declared.Data.{Data}
 use Rattle.text.specs.declared.Data.the-variants as D
 use Rattle.text.specs.declared.Control.the-variants.{Reset}
-use Rattle.text.specs.Data.{stringOf, controlOf}
+use Rattle.text.specs.Data.{stringOf, singleOf, controlOf}
 use Rattle.text.proofs.read_control.Statement.{statement}
 use Rattle.text.proofs.read_control.Tie as tie
 
-single : (t : List ℕ) → length t ≡ 1 → t ≡ getD t 0 0 ∷ []
-single [] h = absurd (omega arith)
-single (b ∷ []) h = refl
-single (b ∷ c ∷ t) h = absurd (omega arith)
+one-byte : (t : List ℕ) → length t ≡ 1 → controlOf t ≡ singleOf (getD t 0 0) t
+unfolding controlOf
+one-byte [] h = absurd (omega arith)
+one-byte (b ∷ []) h = refl
+one-byte (b ∷ c ∷ t) h = absurd (omega arith)
 
 no-control : (t : List ℕ) → (length t ≡ 1 → ⊥) → (length t ≡ 2 → ⊥) → stringOf t ≡ controlOf t
 unfolding controlOf
@@ -36,6 +37,9 @@ two-bytes (b ∷ c ∷ []) h = refl
 two-bytes (b ∷ c ∷ d ∷ t) h = absurd (omega arith)
 
 module _ (t : List ℕ) (r : Data) where
+  single : length t ≡ 1 → r ≡ singleOf (getD t 0 0) t → r ≡ controlOf t
+  single h e = rw (one-byte t h) e
+
   long : (length t ≡ 1 → ⊥) → (length t ≡ 2 → ⊥) → r ≡ stringOf t → r ≡ controlOf t
   long h k e = rw (no-control t h k) at e
 

@@ -1,24 +1,22 @@
 use mathlib.Core.Path.{_≡_}
-use mathlib.Core.List.{List, [], _∷_}
+use mathlib.Core.List.{List}
 use Prim.Native.Nat.{ℕ}
 use borrow.Author.Needs.{needs}
 use Rattle.basics.proofs.Rules.{tests}
 use Rattle.text.specs.declared.Data.{Data}
-use Rattle.text.specs.Data.{stringOf, controlOf}
+use Rattle.text.specs.Data.{stringOf, singleOf}
 use Rattle.text.proofs.read_single.Statement.{statement}
 use Rattle.text.proofs.read_single.Tie as tie
 
-module _ (b : ℕ) (t : List ℕ) (e : t ≡ b ∷ []) (r : Data) where
-  control : (k : ℕ) → b ≡ k → r ≡ controlOf (k ∷ []) → r ≡ controlOf t
-  control k h q = rw (e, h) q
+module _ (b : ℕ) (t : List ℕ) (r : Data) where
+  control : (k : ℕ) → b ≡ k → r ≡ singleOf k t → r ≡ singleOf b t
+  control k h e = rw h e
 
-  other : (b ≡ 82 → ⊥) → (b ≡ 84 → ⊥) → (b ≡ 88 → ⊥) → (b ≡ 67 → ⊥) → r ≡ stringOf t → r ≡ controlOf t
-  unfolding controlOf
-  other f g h k q = rw e (simp tests (rw e at q))
+  other : (b ≡ 82 → ⊥) → (b ≡ 84 → ⊥) → (b ≡ 88 → ⊥) → (b ≡ 67 → ⊥) → r ≡ stringOf t → r ≡ singleOf b t
+  other f g h k e = simp tests e
 
 ruleset laws = (needs, control, other)
 
 pub read-single-spec : {M : Type 1} → statement M
-unfolding controlOf
 read-single-spec =
     tie.close (tie.spec (λ c κs. search laws) (λ c. search laws) (λ c. search laws) (λ c. search laws) (λ c. search laws) (λ c. search laws))

@@ -1,8 +1,8 @@
 use borrow.Author.Needs.{needs}
-use Rattle.pipettor.proofs.Tasks.{outcome-data, outcome-report}
-use Rattle.pipettor.specs.Byte.{outcomeOf}
 use Rattle.pipettor.proofs.acting.answer_to.Statement.{statement}
 use Rattle.pipettor.proofs.acting.answer_to.Tie as tie
+use Rattle.pipettor.proofs.Tasks.{outcome-data, outcome-report}
+use Rattle.pipettor.specs.Byte.{outcomeOf}
 
 ruleset laws = (needs, outcome-data, outcome-report)
 
@@ -12,6 +12,7 @@ answer-to-spec =
     tie.close
     (tie.spec
     (λ c. search laws)
+    (λ c κs. search laws)
     (λ c κs. search laws)
     (λ c κs. search laws)
     (λ c. search laws)

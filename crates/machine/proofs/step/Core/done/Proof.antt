@@ -1,6 +1,6 @@
 use borrow.Author.Needs.{needs}
 use Rattle.machine.proofs.Acting.{done-case, begins-text, repeats-text}
-use Rattle.machine.specs.Buffer.{doneOf}
+use Rattle.machine.specs.Act.{doneOf}
 use Rattle.machine.proofs.step.Core.done.Statement.{statement}
 use Rattle.machine.proofs.step.Core.done.Tie as tie
 

@@ -1,6 +1,6 @@
 use borrow.Author.Needs.{needs}
 use Rattle.machine.proofs.Acting.{stop-case}
-use Rattle.machine.specs.Buffer.{haltOf}
+use Rattle.machine.specs.Act.{haltOf}
 use Rattle.machine.proofs.step.Core.stop.Statement.{statement}
 use Rattle.machine.proofs.step.Core.stop.Tie as tie
 

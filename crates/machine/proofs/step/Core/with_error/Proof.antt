@@ -4,4 +4,4 @@ use Rattle.machine.proofs.step.Core.with_error.Statement.{statement}
 use Rattle.machine.proofs.step.Core.with_error.Tie as tie
 
 pub with-error-spec : {M : Type 1} → statement M
-with-error-spec = tie.close (tie.spec (λ c κs. search (needs, errs)) (λ c. search (needs, errs)))
+with-error-spec = tie.close (tie.spec (λ c κs. search needs) (λ c κs. search needs) (λ c. search (needs, errs)))

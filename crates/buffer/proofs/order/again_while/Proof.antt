@@ -1,0 +1,13 @@
+use borrow.Author.Needs.{needs}
+use Rattle.buffer.proofs.Ordering.{while-case}
+use Rattle.buffer.specs.Order.{orderOf}
+use Rattle.buffer.proofs.order.again_while.Statement.{statement}
+use Rattle.buffer.proofs.order.again_while.Tie as tie
+
+ruleset laws = (needs, while-case)
+
+pub again-while-spec : {M : Type 1} → statement M
+unfolding orderOf
+again-while-spec =
+    tie.close
+    (tie.spec (λ c. search laws) (λ c. search laws) (λ c. search laws) (λ c. search laws) (λ c. search laws) (λ c. search laws) (λ c. search laws) (λ c. search laws))

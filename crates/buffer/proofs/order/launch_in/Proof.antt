@@ -1,0 +1,24 @@
+use borrow.Author.Needs.{needs}
+use Rattle.buffer.proofs.Ordering.{state-case}
+use Rattle.buffer.specs.Order.{orderOf}
+use Rattle.buffer.proofs.order.launch_in.Statement.{statement}
+use Rattle.buffer.proofs.order.launch_in.Tie as tie
+
+ruleset laws = (needs, state-case)
+
+pub launch-in-spec : {M : Type 1} → statement M
+unfolding orderOf
+launch-in-spec =
+    tie.close
+    (tie.spec
+    (λ c. search laws)
+    (λ c. search laws)
+    (λ c. search laws)
+    (λ c κs. search laws)
+    (λ c. search laws)
+    (λ c. search laws)
+    (λ c. search laws)
+    (λ c. search laws)
+    (λ c. search laws)
+    (λ c. search laws)
+    (λ c. search laws))

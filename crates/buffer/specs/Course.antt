@@ -1,0 +1,102 @@
+-- 01, "Ticks, volume and motion": how a run finds its way through the text: places, loops and their passes.
+use Prim.Native.Nat.{ℕ, _+_, _-_}
+use lib.Dec.{ltb, eqb}
+use Rattle.basics.specs.Choice.{if_then_else_}
+use Rattle.motion.specs.declared.Activity.{Activity}
+use Rattle.motion.specs.declared.Activity.the-variants.{Initialising, Moving, Delaying, Between}
+use Rattle.buffer.specs.declared.course.State.{State}
+use Rattle.buffer.specs.declared.course.State.the-variants.{Empty, Stored, Running, Stopped, Done}
+use Rattle.buffer.specs.declared.course.Mark.{Mark}
+use Rattle.buffer.specs.declared.course.Loops.{Loops}
+use Rattle.buffer.specs.declared.course.Course.{Course}
+use Rattle.buffer.specs.declared.course.Pass.{Pass}
+use Rattle.buffer.specs.declared.course.Pass.the-variants.{Again, Over}
+
+-- a course with one field changed
+abbrev pub courseOf : ℕ → ℕ → Loops → State → ℕ → Course
+courseOf at len loops state error = record { at = at; len = len; loops = loops; state = state; error = error }
+
+abbrev pub inState : State → Course → Course
+inState state c = courseOf (c .at) (c .len) (c .loops) state (c .error)
+
+abbrev pub withError : ℕ → Course → Course
+withError error c = courseOf (c .at) (c .len) (c .loops) (c .state) error
+
+-- open loops, the innermost first: where each starts, and how often it has been gone back to
+abbrev pub mark : ℕ → ℕ → Mark
+mark start passes = record { start = start; passes = passes }
+
+abbrev pub loopsOf : ℕ → Mark → Mark → Mark → Mark → ℕ → Loops
+loopsOf depth a b c d bare = record { depth = depth; first = a; second = b; third = c; fourth = d; bare = bare }
+
+abbrev pub noLoops : Loops
+noLoops = loopsOf 0 (mark 0 0) (mark 0 0) (mark 0 0) (mark 0 0) 0
+
+abbrev pub pushed : Mark → Loops → Loops
+pushed m l = loopsOf (l .depth + 1) m (l .first) (l .second) (l .third) (l .bare)
+
+abbrev pub popped : Loops → Loops
+popped l = loopsOf (l .depth - 1) (l .second) (l .third) (l .fourth) (mark 0 0) (l .bare)
+
+abbrev pub repeated : ℕ → Loops → Loops
+repeated p l = loopsOf (l .depth) (mark (l .first .start) p) (l .second) (l .third) (l .fourth) (l .bare)
+
+abbrev pub bareRepeated : ℕ → Loops → Loops
+bareRepeated p l = loopsOf (l .depth) (l .first) (l .second) (l .third) (l .fourth) p
+
+-- "G n gives n passes in all"; "0 is endless", and its passes are not counted
+unfoldable pub passOf : ℕ → ℕ → Pass
+passOf n p = if eqb n 0 then Again p else if ltb (p + 1) n then Again (p + 1) else Over
+
+-- a command has ended, and the next stands at a place: "The end of the last command makes Done in the same tick."
+unfoldable pub reached : ℕ → Loops → Course → Course
+reached at loops c = courseOf at (c .len) loops (if ltb at (c .len) then Running Between else Done) (c .error)
+
+-- a command goes on, or has ended, and the next stands at a place
+unfoldable pub goneOn : Activity → ℕ → Course → Course
+goneOn (Initialising t) at c = courseOf at (c .len) (c .loops) (Running (Initialising t)) (c .error)
+goneOn (Moving t) at c = courseOf at (c .len) (c .loops) (Running (Moving t)) (c .error)
+goneOn (Delaying k) at c = courseOf at (c .len) (c .loops) (Running (Delaying k)) (c .error)
+goneOn Between at c = reached at (c .loops) c
+
+-- a text of so many characters, before its first command: erased, waiting, and run from its start
+abbrev pub anew : ℕ → State → Course → Course
+anew len state c = courseOf 0 len noLoops state (c .error)
+
+abbrev pub erasedOf : Course → Course
+erasedOf c = anew 0 Empty c
+
+abbrev pub waiting : ℕ → Course → Course
+waiting len c = anew len Stored c
+
+abbrev pub begun : ℕ → Course → Course
+begun len c = anew len (Running Between) c
+
+-- "A refusal in a run sets the last error to its code and erases the text (Empty)"
+abbrev pub failedOf : ℕ → Course → Course
+failedOf code c = withError code (erasedOf c)
+
+-- g: "each further one from the command after its g"; a fifth loop is never met (proofs/OnCourse)
+unfoldable pub openedOf : ℕ → Course → Course
+openedOf next c =
+    if ltb (c .loops .depth) 4 then reached next (pushed (mark next 0) (c .loops)) c else failedOf 3 c
+
+-- G of the innermost open loop: back to its start, or on behind it; "a loop entered anew counts anew"
+unfoldable pub closedBy : Pass → ℕ → Course → Course
+closedBy (Again p) next c = reached (c .loops .first .start) (repeated p (c .loops)) c
+closedBy Over next c = reached next (popped (c .loops)) c
+
+-- a bare G: "from the text's start"
+unfoldable pub closedBare : Pass → ℕ → Course → Course
+closedBare (Again p) next c = reached 0 (bareRepeated p (c .loops)) c
+closedBare Over next c = reached next (c .loops) c
+
+unfoldable pub closedOf : ℕ → ℕ → Course → Course
+closedOf n next c =
+    if eqb (c .loops .depth) 0
+    then closedBare (passOf n (c .loops .bare)) next c
+    else closedBy (passOf n (c .loops .first .passes)) next c
+
+-- "Then Stopped before the next command, loop counts kept, or Empty if none is left."
+unfoldable pub halted : Course → Course
+halted c = if ltb (c .at) (c .len) then inState Stopped c else erasedOf c

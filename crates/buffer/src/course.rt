@@ -1,0 +1,305 @@
+// The buffer's state and the way of a run through the text. Nothing here knows a plunger.
+use motion::Activity;
+ghost use mathlib.Core.Path.{_≡_};
+ghost use Prim.Native.Nat.{_<_};
+ghost use Rattle.buffer.specs.Course.{courseOf, mark, noLoops, pushed, popped, repeated, bareRepeated, passOf, reached, goneOn, failedOf, openedOf, closedBy, closedBare, closedOf, inState, withError, anew, erasedOf, waiting, begun, halted};
+
+pub enum State {
+    Empty,
+    Stored,
+    Running(Activity),
+    Stopped,
+    Done,
+}
+
+// An open loop: where it starts, and how often it has been gone back to.
+pub struct Mark {
+    pub start: usize,
+    pub passes: u32,
+}
+
+// Open loops, the innermost first, and the passes of a bare G.
+pub struct Loops {
+    pub depth: usize,
+    pub first: Mark,
+    pub second: Mark,
+    pub third: Mark,
+    pub fourth: Mark,
+    pub bare: u32,
+}
+
+// The next command's place, the text's length, and the last error.
+pub struct Course {
+    pub at: usize,
+    pub len: usize,
+    pub loops: Loops,
+    pub state: State,
+    pub error: u8,
+}
+
+// A loop goes round again, having gone back so often, or is over.
+pub enum Pass {
+    Again(u32),
+    Over,
+}
+
+// G with n passes, gone back to p times.
+fn next_pass(n: u32, p: u32) -> Pass
+    ensures { λ r. ⌜ r ≡ passOf n p ⌝ }
+{
+    if n == 0 {
+        return Pass::Again(p);
+    }
+    let last = n - 1;
+    if p < last {
+        return Pass::Again(p + 1);
+    }
+    Pass::Over
+}
+
+impl Loops {
+    pub fn none() -> Loops
+        ensures { λ r. ⌜ r ≡ noLoops ⌝ }
+    {
+        Loops {
+            depth: 0,
+            first: Mark {
+                start: 0,
+                passes: 0,
+            },
+            second: Mark {
+                start: 0,
+                passes: 0,
+            },
+            third: Mark {
+                start: 0,
+                passes: 0,
+            },
+            fourth: Mark {
+                start: 0,
+                passes: 0,
+            },
+            bare: 0,
+        }
+    }
+
+    // A loop that starts here is entered.
+    fn push(self, start: usize) -> Loops
+        requires { ⌜ self .depth < 4 ⌝ }
+        ensures { λ r. ⌜ r ≡ pushed (mark start 0) self ⌝ }
+    {
+        let first = self.first;
+        let second = self.second;
+        let third = self.third;
+        Loops {
+            depth: self.depth + 1,
+            first: Mark { start, passes: 0 },
+            second: first,
+            third: second,
+            fourth: third,
+            bare: self.bare,
+        }
+    }
+
+    // The innermost loop is left.
+    fn pop(self) -> Loops
+        requires { ⌜ 0 < self .depth ⌝ }
+        ensures { λ r. ⌜ r ≡ popped self ⌝ }
+    {
+        let second = self.second;
+        let third = self.third;
+        let fourth = self.fourth;
+        Loops {
+            depth: self.depth - 1,
+            first: second,
+            second: third,
+            third: fourth,
+            fourth: Mark {
+                start: 0,
+                passes: 0,
+            },
+            bare: self.bare,
+        }
+    }
+
+    fn repeat(self, passes: u32) -> Loops
+        ensures { λ r. ⌜ r ≡ repeated passes self ⌝ }
+    {
+        let mut next = self;
+        next.first.passes = passes;
+        next
+    }
+
+    fn repeat_bare(self, passes: u32) -> Loops
+        ensures { λ r. ⌜ r ≡ bareRepeated passes self ⌝ }
+    {
+        let mut next = self;
+        next.bare = passes;
+        next
+    }
+}
+
+impl Course {
+    // The same text at another place of its run.
+    fn placed(self, at: usize, loops: Loops, state: State) -> Course
+        ensures { λ r. ⌜ r ≡ courseOf at (self .len) loops state (self .error) ⌝ }
+    {
+        Course {
+            at,
+            len: self.len,
+            loops,
+            state,
+            error: self.error,
+        }
+    }
+
+    // A command has ended: all ways in which one does pass here.
+    pub fn reach(self, at: usize, loops: Loops) -> Course
+        ensures { λ r. ⌜ r ≡ reached at loops self ⌝ }
+    {
+        if at < self.len {
+            return self.placed(at, loops, State::Running(Activity::Between));
+        }
+        self.placed(at, loops, State::Done)
+    }
+
+    // A command goes on.
+    fn busy(self, at: usize, activity: Activity) -> Course
+        ensures { λ r. ⌜ r ≡ courseOf at (self .len) (self .loops) (State.Running activity) (self .error) ⌝ }
+    {
+        let loops = self.loops;
+        self.placed(at, loops, State::Running(activity))
+    }
+
+    pub fn go_on(self, activity: Activity, at: usize) -> Course
+        ensures { λ r. ⌜ r ≡ goneOn activity at self ⌝ }
+    {
+        match activity {
+            Activity::Initialising(t) => self.busy(at, Activity::Initialising(t)),
+            Activity::Moving(t) => self.busy(at, Activity::Moving(t)),
+            Activity::Delaying(k) => self.busy(at, Activity::Delaying(k)),
+            Activity::Between => {
+                let loops = self.loops;
+                self.reach(at, loops)
+            }
+        }
+    }
+
+    // The run has failed: all ways in which one does pass here.
+    pub fn failed(self, code: u8) -> Course
+        ensures { λ r. ⌜ r ≡ failedOf code self ⌝ }
+    {
+        self.erase().with_error(code)
+    }
+
+    // g, with the next command's place.
+    pub fn open(self, next: usize) -> Course
+        ensures { λ r. ⌜ r ≡ openedOf next self ⌝ }
+    {
+        let loops = self.loops;
+        let depth = loops.depth;
+        if depth < 4 {
+            return self.reach(next, loops.push(next));
+        }
+        self.failed(3)
+    }
+
+    // G of the innermost open loop.
+    fn close_by(self, pass: Pass, next: usize) -> Course
+        requires { ⌜ 0 < self .loops .depth ⌝ }
+        ensures { λ r. ⌜ r ≡ closedBy pass next self ⌝ }
+    {
+        let loops = self.loops;
+        match pass {
+            Pass::Again(p) => {
+                let first = loops.first;
+                let start = first.start;
+                self.reach(start, loops.repeat(p))
+            }
+            Pass::Over => self.reach(next, loops.pop()),
+        }
+    }
+
+    // A bare G.
+    fn close_bare(self, pass: Pass, next: usize) -> Course
+        ensures { λ r. ⌜ r ≡ closedBare pass next self ⌝ }
+    {
+        let loops = self.loops;
+        match pass {
+            Pass::Again(p) => self.reach(0, loops.repeat_bare(p)),
+            Pass::Over => self.reach(next, loops),
+        }
+    }
+
+    // G, with the next command's place.
+    pub fn close(self, n: u32, next: usize) -> Course
+        ensures { λ r. ⌜ r ≡ closedOf n next self ⌝ }
+    {
+        let loops = self.loops;
+        let depth = loops.depth;
+        if depth == 0 {
+            let bare = loops.bare;
+            return self.close_bare(next_pass(n, bare), next);
+        }
+        let first = loops.first;
+        let passes = first.passes;
+        self.close_by(next_pass(n, passes), next)
+    }
+
+    pub fn in_state(self, state: State) -> Course
+        ensures { λ r. ⌜ r ≡ inState state self ⌝ }
+    {
+        let loops = self.loops;
+        self.placed(self.at, loops, state)
+    }
+
+    pub fn with_error(self, error: u8) -> Course
+        ensures { λ r. ⌜ r ≡ withError error self ⌝ }
+    {
+        let mut next = self;
+        next.error = error;
+        next
+    }
+
+    // A text of so many characters, before its first command.
+    fn anew(self, len: usize, state: State) -> Course
+        ensures { λ r. ⌜ r ≡ anew len state self ⌝ }
+    {
+        let loops = Loops::none();
+        Course {
+            at: 0,
+            len,
+            loops,
+            state,
+            error: self.error,
+        }
+    }
+
+    pub fn wait(self, len: usize) -> Course
+        ensures { λ r. ⌜ r ≡ waiting len self ⌝ }
+    {
+        self.anew(len, State::Stored)
+    }
+
+    pub fn begin(self, len: usize) -> Course
+        ensures { λ r. ⌜ r ≡ begun len self ⌝ }
+    {
+        self.anew(len, State::Running(Activity::Between))
+    }
+
+    pub fn erase(self) -> Course
+        ensures { λ r. ⌜ r ≡ erasedOf self ⌝ }
+    {
+        self.anew(0, State::Empty)
+    }
+
+    // T.
+    pub fn halt(self) -> Course
+        ensures { λ r. ⌜ r ≡ halted self ⌝ }
+    {
+        if self.at < self.len {
+            return self.in_state(State::Stopped);
+        }
+        self.erase()
+    }
+}

@@ -1,9 +1,0 @@
-use borrow.Author.Needs.{needs}
-use Rattle.machine.proofs.Places.{opening}
-use Rattle.machine.proofs.course.Course.open.Statement.{statement}
-use Rattle.machine.proofs.course.Course.open.Tie as tie
-
-ruleset laws = (needs, opening)
-
-pub open-spec : {M : Type 1} → statement M
-open-spec = tie.close (tie.spec (λ c κs. search laws) (λ c κs. search laws) (λ c. search laws) (λ c κs. search laws) (λ c. search laws))

@@ -1,9 +1,0 @@
-use borrow.Author.Needs.{needs}
-use Rattle.pipettor.proofs.Telling.{volume-fits}
-use Rattle.pipettor.proofs.reports.volume.Statement.{statement}
-use Rattle.pipettor.proofs.reports.volume.Tie as tie
-
-ruleset laws = (needs, volume-fits)
-
-pub volume-spec : {M : Type 1} → statement M
-volume-spec = tie.close (tie.spec (λ c κs. search laws) (λ c. search laws) (λ c. search laws))

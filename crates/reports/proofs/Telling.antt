@@ -1,0 +1,73 @@
+-- Laws of `specs/Reports`, one for each return of the code.
+use mathlib.Core.Path.{_≡_}
+use mathlib.Core.Bool.{true, false}
+use Prim.Native.Nat.{ℕ, _+_, _*_, _^_, _≤_, _<_}
+use native.Mathlib.Nat.{div-le-of-le-mul}
+use native.Mathlib.Omega.{arith}
+use borrow.Author.Tests.{ne-eqb, le-leb, lt-leb, ltb-true}
+use lib.Dec.{eqb, ltb}
+use Rattle.settings.specs.declared.Settings.{Settings}
+use Rattle.settings.proofs.Limits.{kept-rate-is-near-40000}
+use Rattle.settings.specs.Units.{nearest, flowOf, nanolitresOf}
+use Rattle.motion.specs.declared.Activity.{Activity}
+use Rattle.motion.specs.declared.Body.{Body}
+use Rattle.motion.specs.Bounds.{BodyOk}
+use Rattle.text.specs.declared.Question.{Question}
+use Rattle.buffer.specs.declared.course.State.{State}
+use Rattle.buffer.specs.declared.course.State.the-variants.{Running}
+use Rattle.reports.specs.declared.Told.{Told}
+use Rattle.reports.specs.declared.Told.the-variants.{No}
+use Rattle.reports.specs.Reports.{goalIn, settingOf, valueOf, queryOf, tellOf}
+
+-- by the case at hand
+pub goal-case : (s j : State) (p r : ℕ) → s ≡ j → r ≡ goalIn j p → r ≡ goalIn s p
+goal-case s j p r q e = rw q e
+
+pub goal-while-case : (k j : Activity) (p r : ℕ) → k ≡ j → r ≡ goalIn (Running j) p → r ≡ goalIn (Running k) p
+goal-while-case k j p r q e = rw q e
+
+pub setting-case : (n j : ℕ) (s : Settings) (r : Told) → n ≡ j → r ≡ settingOf j s → r ≡ settingOf n s
+setting-case n j s r q e = rw q e
+
+pub value-case : (n j : ℕ) (b : Body) (s : State) (r : Told) → n ≡ j → r ≡ valueOf j b s → r ≡ valueOf n b s
+value-case n j b s r q e = rw q e
+
+pub query-case : (n j error : ℕ) (r : Told) → n ≡ j → r ≡ queryOf j error → r ≡ queryOf n error
+query-case n j error r q e = rw q e
+
+pub tell-case : (q j : Question) (ours : ℕ) (b : Body) (s : State) (error : ℕ) (r : Told) → q ≡ j → r ≡ tellOf j ours b s error → r ≡ tellOf q ours b s error
+tell-case q j ours b s error r p e = rw p e
+
+pub rate-least : (b : Body) → BodyOk b → 39650 ≤ b .settings .rate
+rate-least b ok = kept-rate-is-near-40000 (b .settings) (ok .settings) .0
+
+-- a number of 4 to 20: the code tests for it once 0, 1, 3, 29 and 67 are excluded
+module _ (n : ℕ) (b : Body) (s : State) where
+  differs : (least : ℕ) → least ≤ n → (j : ℕ) → ltb j least ≡ true → eqb n j ≡ false
+  differs least h j l = ne-eqb n j (λ q. omega (arith, ltb-true j least l))
+
+  pub value-setting : (r : Told) → (n ≡ 3 → ⊥) → 3 ≤ n → n < 21 → r ≡ settingOf n (b .settings) → r ≡ valueOf n b s
+  unfolding valueOf
+  value-setting r d h k e = let l : 4 ≤ n = omega arith in simp (differs 4 l, le-leb 4 n l, le-leb n 20 (omega arith), e)
+
+  pub value-low : (n ≡ 0 → ⊥) → (n ≡ 1 → ⊥) → n < 3 → No ≡ valueOf n b s
+  unfolding valueOf
+  value-low p q h = let two : n ≡ 2 = omega arith in rw two
+
+  pub value-high : (n ≡ 29 → ⊥) → (n ≡ 67 → ⊥) → 21 ≤ n → No ≡ valueOf n b s
+  unfolding valueOf
+  value-high p q h =
+      let l : 4 ≤ n = omega arith in
+      simp (differs 4 l, le-leb 4 n l, lt-leb n 20 (omega arith), ne-eqb n 29 p, ne-eqb n 67 q)
+
+-- what is told fits 32 bits
+pub flow-fits : (t r : ℕ) → t ≤ 800000 → r ≡ flowOf t → r < 2 ^ 32
+unfolding flowOf nearest
+flow-fits t r h e = omega arith
+
+pub volume-fits : (p c r : ℕ) → p ≤ 44000 → 39650 ≤ c → r ≡ nanolitresOf p c → r < 2 ^ 32
+unfolding nanolitresOf nearest
+volume-fits p c r h k e =
+    let most : 2 * (p * 1000000) + c ≤ 2 * c * 1200000 = omega arith in
+    let l = div-le-of-le-mul (2 * c) most in
+    omega (arith, l)

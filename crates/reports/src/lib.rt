@@ -1,0 +1,148 @@
+// Reports: what Q, ? and f say.
+use buffer::course::State;
+use line::Report;
+use motion::Activity;
+use motion::Body;
+use settings::Settings;
+use settings::units;
+use text::Question;
+ghost use mathlib.Core.Path.{_≡_};
+ghost use Prim.Native.Nat.{_≤_};
+ghost use Rattle.settings.specs.Units.{flowOf, nanolitresOf};
+ghost use Rattle.settings.specs.Limits.{Kept};
+ghost use Rattle.motion.specs.Bounds.{BodyOk};
+ghost use Rattle.reports.specs.Reports.{Tellable, goalIn, busyIn, textIn, settingOf, valueOf, queryOf, tellOf};
+
+// What a report says, or that there is none of this number.
+pub enum Told {
+    Says(Report),
+    No,
+}
+
+fn goal_while(activity: Activity, plunger: u32) -> u32
+    ensures { λ r. ⌜ r ≡ goalIn (State.Running activity) plunger ⌝ }
+{
+    match activity {
+        Activity::Initialising(t) => t.goal,
+        Activity::Moving(t) => t.goal,
+        Activity::Delaying(_) => plunger,
+        Activity::Between => plunger,
+    }
+}
+
+fn goal_in(state: State, plunger: u32) -> u32
+    ensures { λ r. ⌜ r ≡ goalIn state plunger ⌝ }
+{
+    match state {
+        State::Empty => plunger,
+        State::Stored => plunger,
+        State::Running(activity) => goal_while(activity, plunger),
+        State::Stopped => plunger,
+        State::Done => plunger,
+    }
+}
+
+fn busy_in(state: State) -> u32
+    ensures { λ r. ⌜ r ≡ busyIn state ⌝ }
+{
+    match state {
+        State::Empty => 0,
+        State::Stored => 0,
+        State::Running(_) => 1,
+        State::Stopped => 0,
+        State::Done => 0,
+    }
+}
+
+fn text_in(state: State) -> u32
+    ensures { λ r. ⌜ r ≡ textIn state ⌝ }
+{
+    match state {
+        State::Empty => 0,
+        State::Stored => 1,
+        State::Running(_) => 1,
+        State::Stopped => 1,
+        State::Done => 0,
+    }
+}
+
+// A speed in nL a second.
+fn flow(tenths: u32) -> Told
+    requires { ⌜ tenths ≤ 800000 ⌝ }
+    ensures { λ r. ⌜ r ≡ Told.Says (Report.Thousandths (flowOf tenths)) ⌝ }
+{
+    let nl = units::flow(tenths) as u32;
+    Told::Says(Report::Thousandths(nl))
+}
+
+// The plunger in nL.
+fn volume(plunger: u32, rate: u32) -> Told
+    requires { ⌜ (plunger ≤ 44000) × (39650 ≤ rate) ⌝ }
+    ensures { λ r. ⌜ r ≡ Told.Says (Report.Thousandths (nanolitresOf plunger rate)) ⌝ }
+{
+    let nl = units::nanolitres(plunger, rate) as u32;
+    Told::Says(Report::Thousandths(nl))
+}
+
+// Settings, and the lengths of travel.
+fn setting(n: u32, s: Settings) -> Told
+    requires { ⌜ Kept s ⌝ }
+    ensures { λ r. ⌜ r ≡ settingOf n s ⌝ }
+{
+    match n {
+        4 => Told::Says(Report::Whole(s.backlash)),
+        6 => Told::Says(Report::Tenths(s.start)),
+        7 => Told::Says(Report::Tenths(s.top)),
+        8 => Told::Says(Report::Tenths(s.cutoff)),
+        9 => Told::Says(Report::Whole(s.acceleration)),
+        10 => Told::Says(Report::Whole(s.deceleration)),
+        16 => Told::Says(Report::Whole(Settings::INCREMENTS_MOST)),
+        17 => Told::Says(Report::Whole(Settings::NANOLITRES_MOST / 1000)),
+        18 => flow(s.start),
+        19 => flow(s.top),
+        20 => flow(s.cutoff),
+        _ => Told::No,
+    }
+}
+
+// ? with a number.
+fn value(n: u32, b: Body, state: State) -> Told
+    requires { ⌜ BodyOk b ⌝ }
+    ensures { λ r. ⌜ r ≡ valueOf n b state ⌝ }
+{
+    let settings = b.settings;
+    let plunger = b.plunger;
+    match n {
+        0 => Told::Says(Report::Whole(goal_in(state, plunger))),
+        1 => Told::Says(Report::Whole(plunger)),
+        3 => volume(plunger, settings.rate),
+        4..=20 => setting(n, settings),
+        29 => Told::Says(Report::Whole(busy_in(state))),
+        67 => Told::Says(Report::Whole(text_in(state))),
+        _ => Told::No,
+    }
+}
+
+// Q with a number.
+fn query(n: u32, error: u8) -> Told
+    requires { ⌜ error ≤ 15 ⌝ }
+    ensures { λ r. ⌜ r ≡ queryOf n error ⌝ }
+{
+    match n {
+        0 => Told::Says(Report::Nothing),
+        1 => Told::Says(Report::Character(64 + error)),
+        _ => Told::No,
+    }
+}
+
+// What a report says: of our address's character, the plunger and the settings, the buffer's state and the last error.
+pub fn tell(q: Question, ours: u8, body: Body, state: State, error: u8) -> Told
+    requires { ⌜ Tellable body error ⌝ }
+    ensures { λ r. ⌜ r ≡ tellOf q ours body state error ⌝ }
+{
+    match q {
+        Question::Query(n) => query(n, error),
+        Question::Value(n) => value(n, body, state),
+        Question::Address => Told::Says(Report::Character(ours)),
+    }
+}
