@@ -9,6 +9,7 @@ use lib.Seq.{length-take-le, take-at, drop-at, drop-drop}
 use Rattle.basics.specs.declared.Put.{Put}
 use Rattle.basics.specs.declared.Put.the-variants.{Bytes}
 use Rattle.basics.specs.Lay.{Laid, over, fits, laidIn}
+use Rattle.basics.proofs.Over.{length-over}
 
 pub record Lay (xs : List ℕ) (at : ℕ) (before : List ℕ) (r : Put) (after : List ℕ) : Type 0 where
   pub count : r ≡ Bytes (length xs)
@@ -30,3 +31,14 @@ over-over xs ys at buf h =
     let sum : at + length xs + length ys ≡ at + length (xs ++ ys) = omega (arith, length-append xs ys) in
     rw (take-at front rest (at + length xs) n, ← drop-drop (length ys) (at + length xs) (front ++ rest), drop-at front rest (at + length xs) n, drop-drop (length ys) (at + length xs) buf, sum)
     (ap (λ (x : List ℕ). x ++ drop (at + length (xs ++ ys)) buf) (append-assoc (take at buf) xs ys))
+
+-- ys laid straight after xs, which stand at the start
+module _ (xs ys out one two : List ℕ) (at : ℕ) (r : Put) (e : one ≡ over xs 0 out) (n : at ≡ length xs) (l : Laid ys at one r two) (room : length xs + length ys ≤ length out) where
+  next : Lay ys at one r two
+  next = let long : length one ≡ length out = ap length e ∙ length-over xs 0 out (omega arith) in laid l (omega arith)
+
+  pub all-counted : r ≡ Bytes (length ys)
+  all-counted = next .count
+
+  pub all-laid : two ≡ over (xs ++ ys) 0 out
+  all-laid = let start : at ≡ 0 + length xs = omega arith in next .bytes ∙ rw (start, e) (over-over xs ys 0 out (omega arith))

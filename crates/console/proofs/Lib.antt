@@ -1,3 +1,4 @@
 pub mod Forms
+pub mod Output
 pub mod Serving
 pub mod Lines

@@ -15,13 +15,15 @@ use Rattle.basics.specs.declared.Put.{Put}
 use Rattle.basics.specs.declared.Put.the-variants.{Bytes, NoRoom}
 use Rattle.basics.specs.Lay.{over, fits, laidIn, Laid}
 use Rattle.basics.proofs.Choice.{by}
+use Rattle.basics.proofs.Lists.{front-counted}
 use Rattle.basics.proofs.Over.{length-over}
 use Rattle.basics.proofs.Rules.{by-order}
 use Rattle.desk.specs.Desk.{lineOf, LineEnd}
 use Rattle.desk.proofs.Lines.{long}
 use Rattle.pipettor.specs.declared.Controller.{Controller}
 use Rattle.pipettor.specs.Held.{Held}
-use Rattle.console.specs.Serve.{didOf, servedOf, Left}
+use Rattle.console.specs.Serve.{didOf, servedOf}
+use Rattle.console.specs.Print.{Replies}
 use Rattle.console.specs.Eaten.{Bench, bench, eatenOf, Keeps, Gathers, Stands, Eats, endedLine, Served}
 
 -- bytes laid behind the first n are what stands there, and then they
@@ -119,9 +121,20 @@ served-alike kept n line k w s = go (leb (length kept) 400) refl
 none-kept : (line : List ℕ) → Keeps [] 0 line
 none-kept line = record { count = refl; bytes = λ h. refl }
 
+-- the parts of arrays that are handed on: a line, and what it prints
+pub line-counted : (line : List ℕ) (n : ℕ) → length line ≡ 401 → n ≤ 401 → n ≡ length (take n line)
+line-counted line n w h = front-counted n line (omega arith)
+
+module _ (wanted k : Controller) (text out after : List ℕ) (m : ℕ) (r : Replies wanted text out k m after) where
+  pub reply-within : m ≤ length after
+  reply-within = r .prints .within
+
+  pub reply-counted : m ≡ length (take m after)
+  reply-counted = front-counted m after reply-within
+
 module _ (c : Controller) (line : List ℕ) (n : ℕ) (ended : Bool) (w : length line ≡ 401) where
-  pub line-served : (k : Controller) → ended ≡ true → Left (servedOf (take n line) c) k → Eats (endedLine ended) c n line k 0 line
-  line-served k e l = record {
+  pub line-served : (k : Controller) (text out after : List ℕ) (m : ℕ) → ended ≡ true → Replies (servedOf (take n line) c) text out k m after → Eats (endedLine ended) c n line k 0 line
+  line-served k text out after m e r = let l = r .left in record {
     held = l .held;
     long = w;
     within = omega arith;

@@ -1,3 +1,4 @@
 pub mod Forms
 pub mod Serve
+pub mod Print
 pub mod Eaten

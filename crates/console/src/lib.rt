@@ -1,8 +1,9 @@
 // The bench program: lines in, lines out, as soon as each is complete. Only reading and writing stay outside what is proved.
+mod printing;
+
 use basics::Put;
 use desk::Asked;
 use pipettor::Controller;
-use pipettor::Said;
 use pipettor::address::Address;
 ghost use mathlib.Core.Path.{_≡_};
 ghost use Prim.Native.Nat.{_-_, _≤_};
@@ -10,7 +11,14 @@ ghost use lib.ListN.{length, take, drop};
 ghost use Rattle.pipettor.specs.Held.{Held};
 ghost use Rattle.pipettor.specs.Controller.{advancedOf};
 ghost use Rattle.console.specs.Serve.{fedOf, endedOf, servedOf, Left};
+ghost use Rattle.console.specs.Print.{questionMark, answerText, placeText, replyOf, Replies};
 ghost use Rattle.console.specs.Eaten.{eatenOf, endedLine, Gathers, Eats, Served};
+
+// A controller, and how many bytes of a buffer are to be printed.
+pub struct Replied {
+    pub controller: Controller,
+    pub n: usize,
+}
 
 // A controller, and how many bytes are kept of the line that isn't complete yet.
 pub struct Eaten {
@@ -25,20 +33,6 @@ pub struct Round {
     pub over: bool,
 }
 
-// Status and data, or `-` if silent. The buffer lent is long enough: S1 doesn't come.
-fn print(said: Said, answer: &[u8]) {
-    match said {
-        Said::Silent => {
-            io::write_all(1, b"-\n");
-        }
-        Said::Answer(n) => {
-            io::write_all(1, desk::printed(n, answer));
-            io::write_all(1, b"\n");
-        }
-        Said::S1 => {}
-    }
-}
-
 // `/` and the text: no frame ends here, and nothing is answered.
 fn feed(c: Controller, text: &[u8]) -> Controller
     requires { ⌜ Held c ⌝ }
@@ -51,64 +45,68 @@ fn feed(c: Controller, text: &[u8]) -> Controller
 }
 
 // The CR, and what is answered.
-fn ask(c: Controller) -> Controller
+fn ask(c: Controller, out: &mut [u8]) -> Replied
     requires { ⌜ Held c ⌝ }
-    ensures { λ r. ⌜ Left (endedOf c) r ⌝ }
+    requires { ⌜ length (now out) ≡ 32 ⌝ }
+    ensures { λ r. ⌜ Replies (endedOf c .reply .controller) (answerText c) (now (out .entry)) (r .controller) (r .n) (now (out .exit)) ⌝ }
 {
     let mut buf = [0u8; 32];
     let last = c.byte(13, &mut buf);
     let said = last.said;
-    print(said, &buf);
-    last.controller
+    let n = printing::show(said, &buf, out);
+    let controller = last.controller;
+    Replied { controller, n }
 }
 
 // "sends `/`, the text, CR"
-fn send(c: Controller, text: &[u8]) -> Controller
+fn send(c: Controller, text: &[u8], out: &mut [u8]) -> Replied
     requires { ⌜ Held c ⌝ }
-    ensures { λ r. ⌜ Left (endedOf (fedOf (now (text .entry)) c)) r ⌝ }
+    requires { ⌜ length (now out) ≡ 32 ⌝ }
+    ensures { λ r. ⌜ Replies (endedOf (fedOf (now (text .entry)) c) .reply .controller) (answerText (fedOf (now (text .entry)) c)) (now (out .entry)) (r .controller) (r .n) (now (out .exit)) ⌝ }
 {
     let fed = feed(c, text);
-    ask(fed)
+    ask(fed, out)
 }
 
-// "for ticks, the plunger, a space, the exact position"
-fn place(plunger: u32, exact: u64) {
-    io::print_decimal(1, plunger as u64);
-    io::write_all(1, b" ");
-    io::print_decimal(1, exact);
-    io::write_all(1, b"\n");
-}
-
-fn wait(c: Controller, n: u32) -> Controller
+fn wait(c: Controller, n: u32, out: &mut [u8]) -> Replied
     requires { ⌜ Held c ⌝ }
-    ensures { λ r. ⌜ Left (advancedOf n c) r ⌝ }
+    requires { ⌜ length (now out) ≡ 32 ⌝ }
+    ensures { λ r. ⌜ Replies (advancedOf n c) (placeText (advancedOf n c)) (now (out .entry)) (r .controller) (r .n) (now (out .exit)) ⌝ }
 {
-    let later = c.advance(n);
-    let device = later.device;
+    let controller = c.advance(n);
+    let device = controller.device;
     let core = device.core;
     let body = core.body;
-    place(body.plunger, body.exact);
-    later
+    let n = printing::place(body.plunger, body.exact, out);
+    Replied { controller, n }
 }
 
-// A complete line.
-fn answer(c: Controller, line: &[u8]) -> Controller
+// A line of other form.
+fn wrong(c: Controller, out: &mut [u8]) -> Replied
     requires { ⌜ Held c ⌝ }
-    ensures { λ r. ⌜ Left (servedOf (now (line .entry)) c) r ⌝ }
+    requires { ⌜ length (now out) ≡ 32 ⌝ }
+    ensures { λ r. ⌜ Replies c questionMark (now (out .entry)) (r .controller) (r .n) (now (out .exit)) ⌝ }
+{
+    let n = printing::question(out);
+    Replied { controller: c, n }
+}
+
+// A complete line: what it does to the controller, and what it prints.
+fn answer(c: Controller, line: &[u8], out: &mut [u8]) -> Replied
+    requires { ⌜ Held c ⌝ }
+    requires { ⌜ length (now out) ≡ 32 ⌝ }
+    ensures { λ r. ⌜ Replies (servedOf (now (line .entry)) c) (replyOf (now (line .entry)) c) (now (out .entry)) (r .controller) (r .n) (now (out .exit)) ⌝ }
 {
     let asked = desk::read(line);
     match asked {
         Asked::Send => {
             if line.len() < 2 {
-                return c;
+                return wrong(c, out);
             }
-            send(c, &line[2..])
+            send(c, &line[2..], out)
         }
-        Asked::Ticks(n) => wait(c, n),
-        Asked::Wrong => {
-            io::write_all(1, b"?\n");
-            c
-        }
+        Asked::Ticks(n) => wait(c, n, out),
+        Asked::Wrong => wrong(c, out),
     }
 }
 
@@ -127,7 +125,7 @@ fn gather(line: &mut [u8], kept: usize, chunk: &[u8], start: usize, end: usize) 
     }
 }
 
-// A line that has ended is answered, and nothing of it is kept.
+// A line that has ended is answered and its answer written, and nothing of the line is kept.
 fn finish(c: Controller, line: &[u8], n: usize, ended: bool) -> Eaten
     requires { ⌜ Held c ⌝ }
     requires { ⌜ length (now line) ≡ 401 ⌝ }
@@ -135,7 +133,11 @@ fn finish(c: Controller, line: &[u8], n: usize, ended: bool) -> Eaten
     ensures { λ r. ⌜ Eats (endedLine ended) c n (now (line .entry)) (r .controller) (r .n) (now (line .entry)) ⌝ }
 {
     if ended {
-        let later = answer(c, &line[..n]);
+        let mut out = [0u8; 32];
+        let replied = answer(c, &line[..n], &mut out);
+        let m = replied.n;
+        io::write_all(1, &out[..m]);
+        let later = replied.controller;
         return Eaten {
             controller: later,
             n: 0,

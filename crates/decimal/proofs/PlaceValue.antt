@@ -11,7 +11,7 @@ use lib.ListN.{length}
 use Rattle.basics.specs.Choice.{if_then_else_}
 use Rattle.basics.specs.Bytes.{zeroDigit, digit, every, valueOf}
 use Rattle.basics.proofs.Digits.{value-append, value-one, digit-is, every-append, and-both}
-use Rattle.decimal.specs.Digits.{lastDigits, trim, digitsOf}
+use Rattle.decimal.specs.Digits.{lastDigits, trim, digitsOf, longOf}
 use Rattle.decimal.proofs.Digits.{length-last}
 
 -- the last k digits spell what n is beyond the tens of 10 ^ k
@@ -93,28 +93,62 @@ last-are-digits zero n = refl
 last-are-digits (suc k) n =
     every-append digit (lastDigits k (n / 10)) ((zeroDigit + n % 10) ∷ []) (last-are-digits k (n / 10)) (rw (digit-is (n % 10) (omega arith)))
 
--- the digits of n spell n
+-- the last k digits without leading zeros spell n, where k are enough
+pub trimmed-spell : (k n : ℕ) → n < 10 ^ k → valueOf (trim (lastDigits k n)) ≡ n
+trimmed-spell k n h = omega (arith, trim-same-value (lastDigits k n), rw (div-eq-of-lt h) at (last-digits-spell k n))
+
+-- they are digits, one to k of them, and by `trim-no-zero` the first is no 0 where more follow
+pub trimmed-are-digits : (k n : ℕ) → every digit (trim (lastDigits k n)) ≡ true
+trimmed-are-digits k n = trim-every digit (lastDigits k n) (last-are-digits k n)
+
+pub trimmed-at-most : (k n : ℕ) → length (trim (lastDigits k n)) ≤ k
+trimmed-at-most k n = omega (arith, trim-short (lastDigits k n), length-last k n)
+
+pub trimmed-at-least-one : (k n : ℕ) → 0 < k → 0 < length (trim (lastDigits k n))
+trimmed-at-least-one k n h = one (lastDigits k n) (length-last k n)
+  where
+    one : (ds : List ℕ) → length ds ≡ k → 0 < length (trim ds)
+    one [] e = absurd (omega arith)
+    one (d ∷ ds) e = trim-leaves-one d ds
+
+-- 32 bits
 pub digits-spell : (n : ℕ) → n < 10 ^ 10 → valueOf (digitsOf n) ≡ n
 unfolding digitsOf
-digits-spell n h = omega (arith, trim-same-value (lastDigits 10 n), rw (div-eq-of-lt h) at (last-digits-spell 10 n))
+digits-spell n h = trimmed-spell 10 n h
 
--- they are digits, one to ten of them, and the first is no 0 where more follow
 pub digits-are-digits : (n : ℕ) → every digit (digitsOf n) ≡ true
 unfolding digitsOf
-digits-are-digits n = trim-every digit (lastDigits 10 n) (last-are-digits 10 n)
+digits-are-digits n = trimmed-are-digits 10 n
 
 pub digits-at-most-ten : (n : ℕ) → length (digitsOf n) ≤ 10
 unfolding digitsOf
-digits-at-most-ten n = omega (arith, trim-short (lastDigits 10 n), length-last 10 n)
+digits-at-most-ten n = trimmed-at-most 10 n
 
 pub digits-at-least-one : (n : ℕ) → 0 < length (digitsOf n)
 unfolding digitsOf
-digits-at-least-one n = one (lastDigits 10 n) (length-last 10 n)
-  where
-    one : (ds : List ℕ) → length ds ≡ 10 → 0 < length (trim ds)
-    one [] e = absurd (omega arith)
-    one (d ∷ ds) e = trim-leaves-one d ds
+digits-at-least-one n = trimmed-at-least-one 10 n (omega arith)
 
 pub digits-no-leading-zero : (n e : ℕ) (es : List ℕ) → digitsOf n ≡ zeroDigit ∷ e ∷ es → ⊥
 unfolding digitsOf
 digits-no-leading-zero n e es h = trim-no-zero (lastDigits 10 n) e es h
+
+-- 64 bits
+pub long-spell : (n : ℕ) → n < 10 ^ 20 → valueOf (longOf n) ≡ n
+unfolding longOf
+long-spell n h = trimmed-spell 20 n h
+
+pub long-are-digits : (n : ℕ) → every digit (longOf n) ≡ true
+unfolding longOf
+long-are-digits n = trimmed-are-digits 20 n
+
+pub long-at-most-twenty : (n : ℕ) → length (longOf n) ≤ 20
+unfolding longOf
+long-at-most-twenty n = trimmed-at-most 20 n
+
+pub long-at-least-one : (n : ℕ) → 0 < length (longOf n)
+unfolding longOf
+long-at-least-one n = trimmed-at-least-one 20 n (omega arith)
+
+pub long-no-leading-zero : (n e : ℕ) (es : List ℕ) → longOf n ≡ zeroDigit ∷ e ∷ es → ⊥
+unfolding longOf
+long-no-leading-zero n e es h = trim-no-zero (lastDigits 20 n) e es h

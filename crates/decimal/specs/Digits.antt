@@ -22,6 +22,10 @@ trim (d ∷ e ∷ ds) = if eqb d zeroDigit then trim (e ∷ ds) else d ∷ e ∷
 unfoldable pub digitsOf : ℕ → List ℕ
 digitsOf n = trim (lastDigits 10 n)
 
+-- a longer one: twenty digits are enough for 64 bits
+unfoldable pub longOf : ℕ → List ℕ
+longOf n = trim (lastDigits 20 n)
+
 -- "increments a second one decimal, µL three"
 abbrev pub countOf : Decimals → ℕ
 countOf One = 1

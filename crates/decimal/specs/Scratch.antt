@@ -4,7 +4,7 @@ use mathlib.Core.Path.{_≡_}
 use mathlib.Core.List.{List, _++_}
 use lib.ListN.{length, drop}
 use Rattle.decimal.specs.declared.Decimals.{Decimals}
-use Rattle.decimal.specs.Digits.{trim, digitsOf, countOf}
+use Rattle.decimal.specs.Digits.{lastDigits, trim, countOf}
 
 -- so many decimals there are, and a scratch array has room for them
 pub record Counted (with : Decimals) (r : ℕ) : Type 0 where
@@ -17,8 +17,8 @@ pub record Idle (ds : List ℕ) (r : ℕ) : Type 0 where
   pub rest : drop r ds ≡ trim ds
   pub within : r ≤ length ds
 
--- n stands from r to `end`, and what follows is as it was
-pub record Before (n end : ℕ) (before : List ℕ) (r : ℕ) (after : List ℕ) : Type 0 where
-  pub from : drop r after ≡ digitsOf n ++ drop end before
+-- the last k digits of n, without leading zeros, stand from r to `end`, and what follows is as it was
+pub record Before (k n end : ℕ) (before : List ℕ) (r : ℕ) (after : List ℕ) : Type 0 where
+  pub from : drop r after ≡ trim (lastDigits k n) ++ drop end before
   pub long : length after ≡ length before
   pub within : r ≤ end

@@ -1,10 +1,10 @@
-// Numbers written in decimal into a buffer that the caller lends: whole, with one decimal, with three.
+// Numbers written in decimal into a buffer that the caller lends: whole of 32 or 64 bits, with one decimal, with three.
 use basics::Put;
 ghost use mathlib.Core.Path.{_≡_};
 ghost use Prim.Native.Nat.{_-_, _≤_, _^_};
 ghost use lib.ListN.{length};
 ghost use Rattle.basics.specs.Lay.{Laid, over};
-ghost use Rattle.decimal.specs.Digits.{lastDigits, countOf, fixedOf};
+ghost use Rattle.decimal.specs.Digits.{lastDigits, longOf, countOf, fixedOf};
 ghost use Rattle.decimal.specs.Scratch.{Counted, Idle, Before};
 
 // The decimals of a fraction: one for increments a second, three for µL.
@@ -25,7 +25,7 @@ impl Decimals {
     }
 
     // How many units of the last decimal make a whole.
-    fn unit(self) -> u32
+    fn unit(self) -> u64
         ensures { λ r. ⌜ r ≡ 10 ^ countOf self ⌝ }
     {
         match self {
@@ -36,7 +36,7 @@ impl Decimals {
 }
 
 // The last k digits of n, the last of them just before `end`.
-fn put_last(k: usize, n: u32, buf: &mut [u8], end: usize)
+fn put_last(k: usize, n: u64, buf: &mut [u8], end: usize)
     requires { ⌜ (k ≤ end) × (end ≤ length (now buf)) ⌝ }
     ensures { λ _. ⌜ now (buf .exit) ≡ over (lastDigits k n) (end - k) (now (buf .entry)) ⌝ }
 {
@@ -69,13 +69,13 @@ fn idle_zeros(digits: &[u8]) -> usize
     i
 }
 
-// n without leading zeros, its last digit just before `end`; where it begins.
-fn put_before(n: u32, buf: &mut [u8], end: usize) -> usize
-    requires { ⌜ (10 ≤ end) × (end ≤ length (now buf)) ⌝ }
-    ensures { λ r. ⌜ Before n end (now (buf .entry)) r (now (buf .exit)) ⌝ }
+// The last k digits of n without leading zeros, the last of them just before `end`; where they begin.
+fn put_before(k: usize, n: u64, buf: &mut [u8], end: usize) -> usize
+    requires { ⌜ (k ≤ end) × (end ≤ length (now buf)) ⌝ }
+    ensures { λ r. ⌜ Before k n end (now (buf .entry)) r (now (buf .exit)) ⌝ }
 {
-    put_last(10, n, buf, end);
-    let start = end - 10;
+    put_last(k, n, buf, end);
+    let start = end - k;
     let idle = idle_zeros(&buf[start..end]);
     start + idle
 }
@@ -86,11 +86,12 @@ fn put_pointed(n: u32, with: Decimals, buf: &mut [u8], at: usize) -> Put
 {
     let decimals = with.count();
     let mut scratch = [0u8; 14];
-    put_last(decimals, n, &mut scratch, 14);
+    let units = n as u64;
+    put_last(decimals, units, &mut scratch, 14);
     let end = 13 - decimals;
     scratch[end] = b'.';
     let unit = with.unit();
-    let from = put_before(n / unit, &mut scratch, end);
+    let from = put_before(10, units / unit, &mut scratch, end);
     basics::lay(&scratch[from..], buf, at)
 }
 
@@ -99,7 +100,16 @@ pub fn put_whole(n: u32, buf: &mut [u8], at: usize) -> Put
     ensures { λ r. ⌜ Laid (fixedOf 0 n) at (now (buf .entry)) r (now (buf .exit)) ⌝ }
 {
     let mut scratch = [0u8; 10];
-    let from = put_before(n, &mut scratch, 10);
+    let from = put_before(10, n as u64, &mut scratch, 10);
+    basics::lay(&scratch[from..], buf, at)
+}
+
+// A whole number of 64 bits.
+pub fn put_long(n: u64, buf: &mut [u8], at: usize) -> Put
+    ensures { λ r. ⌜ Laid (longOf n) at (now (buf .entry)) r (now (buf .exit)) ⌝ }
+{
+    let mut scratch = [0u8; 20];
+    let from = put_before(20, n, &mut scratch, 20);
     basics::lay(&scratch[from..], buf, at)
 }
 

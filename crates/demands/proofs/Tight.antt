@@ -43,6 +43,9 @@ basics-lay κs args z z′ ws ws′ p q = lent (λ y. (tt, (y, (tt, tt)))) (p .s
 pub decimal-put-whole : Tight decimal.put_whole.Kinds.ps decimal.put_whole.Kinds.r decimal.put_whole.Reads.Learnt
 decimal-put-whole κs args z z′ ws ws′ p q = lent (λ y. (tt, (y, (tt, tt)))) (p .said) (q .said) (p .left) (q .left)
 
+pub decimal-put-long : Tight decimal.put_long.Kinds.ps decimal.put_long.Kinds.r decimal.put_long.Reads.Learnt
+decimal-put-long κs args z z′ ws ws′ p q = lent (λ y. (tt, (y, (tt, tt)))) (p .said) (q .said) (p .left) (q .left)
+
 pub decimal-put-tenths : Tight decimal.put_tenths.Kinds.ps decimal.put_tenths.Kinds.r decimal.put_tenths.Reads.Learnt
 decimal-put-tenths κs args z z′ ws ws′ p q = lent (λ y. (tt, (y, (tt, tt)))) (p .said) (q .said) (p .left) (q .left)
 

@@ -1,11 +1,11 @@
 -- Laws of `specs/Byte`, one for each return of the code: what data ask, what the buffer does and what is answered.
-use mathlib.Core.Path.{_≡_, refl, sym, _∙_}
-use mathlib.Core.Bool.{Bool}
+use mathlib.Core.Path.{_≡_, refl, sym, ap, _∙_}
+use mathlib.Core.Bool.{Bool, true, false}
 use mathlib.Core.List.{List}
-use Prim.Native.Nat.{ℕ, _≤_}
-use native.Mathlib.Omega.{arith}
-use borrow.Author.Tests.{le-ltb}
+use Prim.Native.Nat.{ℕ}
+use lib.Dec.{ltb}
 use lib.ListN.{length}
+use Rattle.basics.specs.Choice.{if_then_else_}
 use Rattle.command.specs.declared.Refusal.{Refusal}
 use Rattle.command.specs.Command.{refusalNumber}
 use Rattle.text.specs.declared.Question.{Question}
@@ -92,18 +92,30 @@ spoken-case o j ready before r after p e = rw p e
 
 pub mute : (ready : Bool) (buf : List ℕ) → Spoken Mute ready buf Silent buf
 unfolding saidOf writtenOf
-mute ready buf = record { said = refl; left = refl }
+mute ready buf = let t = ltb (length buf) 32 in record { said = either t Silent; left = either t buf }
+  where
+    either : {A : Type 0} (t : Bool) (a : A) → a ≡ (if t then a else a)
+    either true a = refl
+    either false a = refl
 
-module _ (report : Report) (code status : ℕ) (ready : Bool) (before after : List ℕ) (s : Line.Said) (long : 32 ≤ length before) (q : status ≡ statusOf ready code) (a : Answered status report before s after) where
-  pub says : (n : ℕ) → s ≡ L.Answer n → Spoken (Tell report code) ready before (Answer n) after
+-- what the line says, in our words
+abbrev passedOn : Line.Said → Said
+passedOn (L.Answer n) = Answer n
+passedOn L.S1 = S1
+
+either-way : (t : Bool) (n : ℕ) → passedOn (if t then L.S1 else L.Answer n) ≡ (if t then S1 else Answer n)
+either-way true n = refl
+either-way false n = refl
+
+module _ (report : Report) (code status : ℕ) (ready : Bool) (before after : List ℕ) (s : Line.Said) (q : status ≡ statusOf ready code) (a : Answered status report before s after) where
+  spoken : (r : Said) → passedOn s ≡ r → Spoken (Tell report code) ready before r after
   unfolding saidOf writtenOf
-  says n e =
-      let said : L.Answer n ≡ L.Answer (length (answerOf status report)) = simp (le-ltb (length before) 32 long) at (sym e ∙ a .said) in
-      let size : n ≡ length (answerOf status report) = cc in
-      record { said = rw (size, q); left = rw (← q) (simp (le-ltb (length before) 32 long) at (a .left)) }
+  spoken r e =
+      let long = length (answerOf status report) in
+      record { said = rw (← q) (sym e ∙ ap passedOn (a .said) ∙ either-way (ltb (length before) 32) long); left = rw (← q) (a .left) }
 
-  pub says-never : s ≡ L.S1 → Spoken (Tell report code) ready before S1 after
-  says-never e =
-      let said : L.S1 ≡ L.Answer (length (answerOf status report)) = simp (le-ltb (length before) 32 long) at (sym e ∙ a .said) in
-      let z : _≡_ {A = ℕ} 0 1 = cc in
-      absurd (omega arith)
+  pub says : (n : ℕ) → s ≡ L.Answer n → Spoken (Tell report code) ready before (Answer n) after
+  says n e = spoken (Answer n) (ap passedOn e)
+
+  pub says-short : s ≡ L.S1 → Spoken (Tell report code) ready before S1 after
+  says-short e = spoken S1 (ap passedOn e)

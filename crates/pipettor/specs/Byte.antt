@@ -143,9 +143,14 @@ unfoldable pub writtenOf : Outcome → Bool → List ℕ → List ℕ
 writtenOf Mute ready buf = buf
 writtenOf (Tell report code) ready buf = over (answerOf (statusOf ready code) report) 0 buf
 
+-- an answer that finds less than 32 bytes isn't written
+abbrev pub unsaid : Outcome → Said
+unsaid Mute = Silent
+unsaid (Tell report code) = S1
+
 pub record Spoken (o : Outcome) (ready : Bool) (before : List ℕ) (r : Said) (after : List ℕ) : Type 0 where
-  pub said : r ≡ saidOf o ready
-  pub left : after ≡ writtenOf o ready before
+  pub said : r ≡ (if ltb (length before) 32 then unsaid o else saidOf o ready)
+  pub left : after ≡ (if ltb (length before) 32 then before else writtenOf o ready before)
 
 -- a controller with what was said, and the answer buffer
 pub record After : Type 0 where

@@ -12,7 +12,7 @@ use reports::Told;
 use text::Control;
 use text::Data;
 ghost use mathlib.Core.Path.{_≡_};
-ghost use Prim.Native.Nat.{_+_, _≤_, _<_, _^_};
+ghost use Prim.Native.Nat.{_+_, _<_, _^_};
 ghost use lib.ListN.{length};
 ghost use Rattle.reports.specs.Reports.{Tellable};
 ghost use Rattle.pipettor.specs.Byte.{actionOf, stringAction, taskOf, sizeOf, taskCode, taskDone, taskText, toldCode, outcomeOf, Fetched, Gotten, Spoken};
@@ -209,9 +209,8 @@ impl Got {
 }
 
 impl Outcome {
-    // Into the lent buffer, which has 32 bytes or more.
+    // Into the lent buffer.
     pub fn say(self, ready: bool, buf: &mut [u8]) -> Said
-        requires { ⌜ 32 ≤ length (now buf) ⌝ }
         ensures { λ r. ⌜ Spoken self ready (now (buf .entry)) r (now (buf .exit)) ⌝ }
     {
         match self {
@@ -222,7 +221,6 @@ impl Outcome {
 }
 
 fn speak(report: Report, code: u8, ready: bool, buf: &mut [u8]) -> Said
-    requires { ⌜ 32 ≤ length (now buf) ⌝ }
     ensures { λ r. ⌜ Spoken (Outcome.Tell report code) ready (now (buf .entry)) r (now (buf .exit)) ⌝ }
 {
     let status = line::status(ready, code);

@@ -6,4 +6,4 @@ use Rattle.console.proofs.Serving.{sent}
 ruleset laws = (needs, sent)
 
 pub send-spec : {M : Type 1} → statement M
-send-spec = tie.close (tie.spec (λ c κs. search laws) (λ c κs. search laws) (λ c. search laws))
+send-spec = tie.close (tie.spec (λ c κs. search laws) (λ c κs. search laws) (λ c. search laws) (λ c. search laws))

@@ -6,4 +6,4 @@ use Rattle.console.proofs.Serving.{waited}
 ruleset laws = (needs, waited)
 
 pub wait-spec : {M : Type 1} → statement M
-wait-spec = tie.close (tie.spec (λ c κs. search laws) (λ c κs. search laws) (λ c. search laws))
+wait-spec = tie.close (tie.spec (λ c κs. search laws) (λ c κs. search laws) (λ c. search laws) (λ c. search laws))

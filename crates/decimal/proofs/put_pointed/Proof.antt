@@ -14,7 +14,7 @@ use Rattle.basics.specs.Bytes.{point}
 use Rattle.basics.specs.Lay.{Laid, over}
 use Rattle.basics.proofs.Lists.{drop-step}
 use Rattle.basics.proofs.Over.{drop-over, length-over}
-use Rattle.decimal.specs.Digits.{lastDigits, digitsOf, fixedOf}
+use Rattle.decimal.specs.Digits.{lastDigits, trim, digitsOf, fixedOf}
 use Rattle.decimal.specs.Scratch.{Before}
 use Rattle.decimal.proofs.Digits.{length-last}
 use Rattle.decimal.proofs.Scratch.{from-scratch}
@@ -24,8 +24,8 @@ use Rattle.decimal.proofs.put_pointed.Tie as tie
 positive : (unit d : ℕ) → unit ≡ 10 ^ d → 0 < unit
 positive unit d e = rw e (one-le-pow d 10 (omega arith))
 
-pointed : (d n : ℕ) → 0 < d → fixedOf d n ≡ digitsOf (n / 10 ^ d) ++ point ∷ lastDigits d n
-unfolding fixedOf
+pointed : (d n : ℕ) → 0 < d → fixedOf d n ≡ trim (lastDigits 10 (n / 10 ^ d)) ++ point ∷ lastDigits d n
+unfolding fixedOf digitsOf
 pointed zero n h = absurd (omega arith)
 pointed (suc d) n h = refl
 
@@ -51,7 +51,7 @@ module _ (d n : ℕ) (some : 0 < d) (few : d ≤ 3) (empty laid : List ℕ) (e :
 
   fixed :
       (decimals unit : ℕ) (scratch buf after : List ℕ) (from at : ℕ) (r : Put) →
-      d ≡ decimals → unit ≡ 10 ^ decimals → Before (n / unit) (13 - d) (set laid (13 - d) point) from scratch →
+      d ≡ decimals → unit ≡ 10 ^ decimals → Before 10 (n / unit) (13 - d) (set laid (13 - d) point) from scratch →
       Laid (take (14 - from) (drop from scratch)) at buf r after → Laid (fixedOf decimals n) at buf r after
   fixed decimals unit scratch buf after from at r c u b w =
       from-scratch 14 scratch from (b .long ∙ length-set laid (13 - d) point ∙ long) (b .from ∙ rw (behind, u, ← c) (sym (pointed d n some))) w

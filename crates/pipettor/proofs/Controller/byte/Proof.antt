@@ -32,9 +32,9 @@ answers c =
     let kept = ours .before .before in
     let came = kept .before .before in
     let tested = came .before .before .before .before .before .before in
-    heard _ _ _ _ _ _ _ _ _ _ _ _ _ _ _ _ _ (tested .if1 .left) (ours .letter .ensures) (came .hear .ensures) (kept .keep .ensures) (got .get .ensures)
+    heard _ _ _ _ _ _ _ _ _ _ _ _ _ _ _ _ _ (search (tested .if1 .left)) (ours .letter .ensures) (came .hear .ensures) (kept .keep .ensures) (got .get .ensures)
     (asked .task .ensures) (sized .size .ensures) (coded .code .ensures) (stored .store .ensures) (told .outcome .ensures) (done .done .ensures)
-    (ready .ready .ensures) (said .say .ensures)
+    (search (ready .ready .ensures)) (said .say .ensures)
 
 pub byte-spec : {M : Type 1} → statement M
 byte-spec =
@@ -60,6 +60,6 @@ byte-spec =
     (λ c κs. search needs)
     sum
     (λ c κs. search needs)
-    (λ c κs. c .before .before .before .before .before .before .before .before .before .before .before .before .before .before .before .before .before .before .before .before .before .before .before .before .before .if1 .left)
+    (λ c κs. search needs)
     (λ c. search needs)
     answers)

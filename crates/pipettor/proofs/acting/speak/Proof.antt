@@ -1,9 +1,9 @@
 use borrow.Author.Needs.{needs}
-use Rattle.pipettor.proofs.Tasks.{says, says-never}
+use Rattle.pipettor.proofs.Tasks.{says, says-short}
 use Rattle.pipettor.proofs.acting.speak.Statement.{statement}
 use Rattle.pipettor.proofs.acting.speak.Tie as tie
 
-ruleset laws = (needs, says, says-never)
+ruleset laws = (needs, says, says-short)
 
 pub speak-spec : {M : Type 1} → statement M
 speak-spec =
