@@ -137,18 +137,6 @@ pub long-spell : (n : ℕ) → n < 10 ^ 20 → valueOf (longOf n) ≡ n
 unfolding longOf
 long-spell n h = trimmed-spell 20 n h
 
-pub long-are-digits : (n : ℕ) → every digit (longOf n) ≡ true
-unfolding longOf
-long-are-digits n = trimmed-are-digits 20 n
-
 pub long-at-most-twenty : (n : ℕ) → length (longOf n) ≤ 20
 unfolding longOf
 long-at-most-twenty n = trimmed-at-most 20 n
-
-pub long-at-least-one : (n : ℕ) → 0 < length (longOf n)
-unfolding longOf
-long-at-least-one n = trimmed-at-least-one 20 n (omega arith)
-
-pub long-no-leading-zero : (n e : ℕ) (es : List ℕ) → longOf n ≡ zeroDigit ∷ e ∷ es → ⊥
-unfolding longOf
-long-no-leading-zero n e es h = trim-no-zero (lastDigits 20 n) e es h

@@ -33,8 +33,7 @@ use Rattle.reports.specs.declared.Told.{Told}
 use Rattle.reports.specs.declared.Told.the-variants.{Says, No}
 use Rattle.pipettor.specs.declared.acting.Got.the-variants as G
 use Rattle.pipettor.specs.declared.Said.the-variants.{Answer}
-use Rattle.pipettor.specs.Byte.{toldOf}
-use Rattle.pipettor.specs.Byte.{actionOf, stringAction, taskOf, taskCode, taskDone, taskText, outcomeOf, toldCode, saidOf, writtenOf}
+use Rattle.pipettor.specs.Byte.{toldOf, actionOf, stringAction, taskOf, taskCode, taskDone, taskText, outcomeOf, toldCode, saidOf, writtenOf}
 use Rattle.frames.specs.Frame.{Exchange, doesOf, addedOf, exchangeOf}
 use Rattle.frames.specs.Refused.{toldNumber, toldReport, numberFor, refusalOf, isReport, Replied, Refused, Unchanged, Known, WrongLetter, letter, WrongNumber, operand, report, report-number, loops-of-control, loops-of-text, TooMuchNow, too-many-bytes, control, text, NothingNow, nothing}
 

@@ -30,8 +30,7 @@ use Rattle.pipettor.specs.declared.address.Address.{Address}
 use Rattle.reports.specs.declared.Told.{Told}
 use Rattle.reports.specs.declared.Told.the-variants.{Says, No}
 use Rattle.pipettor.specs.declared.Said.the-variants.{Answer}
-use Rattle.pipettor.specs.Byte.{toldOf}
-use Rattle.pipettor.specs.Byte.{actionOf, stringAction}
+use Rattle.pipettor.specs.Byte.{toldOf, actionOf, stringAction}
 use Rattle.frames.specs.Frame.{Exchange, addedOf}
 
 -- "Reports never change it; a refused report answers its own code 3 and changes nothing."

@@ -1,7 +1,9 @@
 -- Laws of `specs/Act`, one for each return of the code.
 use mathlib.Core.Path.{_≡_, sym, ap, _∙_}
 use mathlib.Core.Bool.{Bool, true, false}
-use Prim.Native.Nat.{ℕ, _+_, _-_}
+use Prim.Native.Nat.{ℕ, _+_, _^_, _<_}
+use mir.Syntax.{w16}
+use mir.Val.{Fits}
 use native.Mathlib.Omega.{arith}
 use Rattle.basics.proofs.Rules.{tests}
 use Rattle.motion.specs.declared.Activity.{Activity}
@@ -16,6 +18,7 @@ use Rattle.buffer.specs.declared.order.Order.{Order}
 use Rattle.buffer.specs.declared.order.Order.the-variants as O
 use Rattle.buffer.specs.Course.{inState, withError, reached, erasedOf, waiting, begun, halted}
 use Rattle.machine.specs.Step.{core}
+use Rattle.machine.specs.Valid.{Valid}
 use Rattle.machine.specs.Act.{haltOf, stopOf, doneOf, coreError, actedOf}
 
 -- T
@@ -75,6 +78,10 @@ module _ (o : Order) (n : ℕ) (c r : Core) (e : r ≡ doneOf O.Join 0 c .next) 
   pub repeats-text : o ≡ O.Repeat → r ≡ doneOf o n c .next
   unfolding doneOf
   repeats-text p = rw p (e ∙ rw same)
+
+-- a text and what 16 bits count have a length
+pub length-fits : (c : Core) (n : ℕ) → Valid c → Fits w16 n → c .course .len + n < 2 ^ 64
+length-fits c n v h = let l = v .course .len in omega arith
 
 module _ (o : Order) (code n : ℕ) (c r : Core) where
   pub accepts : (d : Core) → code ≡ 0 → d ≡ doneOf o n c .next → r ≡ coreError 0 d → r ≡ actedOf o code n c .next

@@ -19,9 +19,8 @@ use Rattle.text.specs.Loops.{levelOf, levels, loopsOk}
 use Rattle.motion.specs.Events.{Event, start, volume}
 use Rattle.motion.specs.Motion as Motion
 use Rattle.buffer.specs.declared.order.Action.the-variants.{Launch}
-use Rattle.buffer.specs.Course.{reached, goneOn}
+use Rattle.buffer.specs.Course.{reached, goneOn, halted}
 use Rattle.machine.specs.Step as Step
-use Rattle.buffer.specs.Course.{halted}
 use Rattle.buffer.specs.Order.{orderOf, sized, codeOf, laidBy, storedBy}
 use Rattle.machine.specs.Act.{haltOf, stopOf, doneOf, actedOf, actOf, textOf}
 use Rattle.machine.specs.Device.{freshOf, tickOf, haltedOf}

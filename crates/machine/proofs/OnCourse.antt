@@ -37,7 +37,7 @@ use Rattle.buffer.specs.declared.course.Loops.{Loops}
 use Rattle.buffer.specs.declared.course.Course.{Course}
 use Rattle.buffer.specs.declared.course.Pass.{Pass}
 use Rattle.buffer.specs.declared.course.Pass.the-variants.{Again, Over}
-use Rattle.buffer.specs.Course.{mark, pushed, popped, repeated, bareRepeated, noLoops, passOf, reached, goneOn, openedOf, closedBy, closedBare, closedOf}
+use Rattle.buffer.specs.Course.{mark, pushed, popped, repeated, bareRepeated, noLoops, passOf, reached, goneOn, openedOf, closedBy, closedBare, closedOf, halted}
 use Rattle.machine.specs.declared.step.Core.{Core}
 use Rattle.buffer.specs.declared.order.Action.{Action}
 use Rattle.buffer.specs.declared.order.Action.the-variants as A
@@ -45,7 +45,6 @@ use Rattle.buffer.specs.declared.order.Order.{Order}
 use Rattle.buffer.specs.declared.order.Order.the-variants as O
 use Rattle.machine.specs.declared.Device.{Device}
 use Rattle.machine.specs.Step.{appliedOf, takenOf, carriedOn, activeOf, stepOf}
-use Rattle.buffer.specs.Course.{halted}
 use Rattle.buffer.specs.Order.{orderOf, laidBy, storedBy}
 use Rattle.machine.specs.Act.{haltOf, stopOf, doneOf, actedOf, actOf, textOf}
 use Rattle.machine.specs.Valid.{Ready}

@@ -38,9 +38,8 @@ use Rattle.buffer.specs.declared.order.Action.{Action}
 use Rattle.buffer.specs.declared.order.Action.the-variants as A
 use Rattle.buffer.specs.declared.order.Order.{Order}
 use Rattle.buffer.specs.declared.order.Order.the-variants as O
-use Rattle.buffer.specs.Course.{reached, goneOn, openedOf, closedOf}
+use Rattle.buffer.specs.Course.{reached, goneOn, openedOf, closedOf, halted}
 use Rattle.machine.specs.Step.{core, appliedOf, takenOf, carriedOn, activeOf, stepOf}
-use Rattle.buffer.specs.Course.{halted}
 use Rattle.buffer.specs.Order.{orderOf, codeOf}
 use Rattle.machine.specs.Act.{haltOf, stopOf, doneOf, actedOf, actOf}
 use Rattle.machine.specs.History.{Sum, counted, addedUp, IsSum, moving}

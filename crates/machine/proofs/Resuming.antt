@@ -7,15 +7,15 @@ use Rattle.basics.specs.Choice.{if_then_else_}
 use Rattle.motion.specs.declared.Body.{Body}
 use Rattle.motion.specs.declared.Activity.{Activity}
 use Rattle.motion.specs.declared.Activity.the-variants.{Initialising, Moving, Delaying, Between}
+use Rattle.motion.specs.Events.{quiet}
 use Rattle.motion.specs.Motion.{bodyFor, atPlunger, cutOf}
 use Rattle.buffer.specs.declared.course.State.the-variants.{Running, Stopped}
 use Rattle.buffer.specs.declared.course.Course.{Course}
 use Rattle.buffer.specs.declared.course.Pass.the-variants.{Again}
 use Rattle.machine.specs.declared.step.Core.{Core}
 use Rattle.buffer.specs.declared.order.Action.the-variants as A
-use Rattle.buffer.specs.Course.{courseOf, inState, passOf, reached, closedBy, closedBare, closedOf}
+use Rattle.buffer.specs.Course.{courseOf, inState, withError, passOf, reached, closedBy, closedBare, closedOf, halted}
 use Rattle.machine.specs.Step.{core}
-use Rattle.buffer.specs.Course.{halted}
 use Rattle.buffer.specs.Order.{orderOf, codeOf}
 use Rattle.machine.specs.Act.{haltOf, stopOf, doneOf, actedOf, actOf}
 use Rattle.machine.specs.History.{inMotion}
@@ -43,7 +43,14 @@ pub a-run-resumes :
 unfolding actOf actedOf orderOf codeOf doneOf
 a-run-resumes added text c e = rw e
 
--- both: the same place, loops and settings, and the exact position the plunger's where a movement was cut
+-- R in a delay: "ends a delay (Done at once if that was the last command)": no command is taken before the next tick
+pub a-run-in-a-delay-takes-no-command :
+    (k : ℕ) (added text : List ℕ) (c : Core) → c .course .state ≡ Running (Delaying k) →
+    actOf A.Run added text c ≡ quiet (core (c .body) (withError 0 (reached (c .course .at) (c .course .loops) (c .course))))
+unfolding actOf actedOf orderOf codeOf doneOf
+a-run-in-a-delay-takes-no-command k added text c e = rw e
+
+-- T and then R: the same place, loops and settings, and the exact position the plunger's where a movement was cut
 pub a-stopped-run-goes-on-where-it-was :
     (a : Activity) (added text : List ℕ) (c : Core) → c .course .state ≡ Running a → c .course .at < c .course .len →
     actOf A.Run added text (stopOf c .next) .next ≡

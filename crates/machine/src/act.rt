@@ -6,6 +6,7 @@ use buffer::order::Order;
 use motion::Activity;
 ghost use mathlib.Core.Path.{_≡_};
 ghost use Prim.Native.Nat.{_+_, _<_, _^_};
+ghost use Rattle.machine.specs.Valid.{Valid};
 ghost use Rattle.machine.specs.Step.{core};
 ghost use Rattle.machine.specs.Act.{haltOf, stopOf, doneOf, coreError, actedOf};
 
@@ -133,12 +134,12 @@ impl Core {
     }
 
     // An order that was accepted (code 0) or refused, with n characters.
-    pub fn act(self, order: Order, code: u8, n: usize) -> Core
-        requires { ⌜ self .course .len + n < 2 ^ 64 ⌝ }
+    pub fn act(self, order: Order, code: u8, n: u16) -> Core
+        requires { ⌜ Valid self ⌝ }
         ensures { λ r. ⌜ r ≡ actedOf order code n self .next ⌝ }
     {
         if code == 0 {
-            return self.done(order, n).with_error(0);
+            return self.done(order, n as usize).with_error(0);
         }
         self.with_error(code)
     }

@@ -2,9 +2,11 @@
 use mathlib.Core.Path.{_≡_, refl, sym, _∙_}
 use mathlib.Core.Bool.{Bool}
 use mathlib.Core.List.{List}
-use Prim.Native.Nat.{ℕ, _+_, _^_, _≤_, _<_}
+use Prim.Native.Nat.{ℕ, _≤_, _<_}
 use native.Mathlib.Omega.{arith}
 use borrow.Author.Tests.{lt-ltb, le-ltb}
+use mir.Syntax.{w16}
+use mir.Val.{Fits}
 use lib.Dec.{ltb, eqb}
 use lib.ListN.{length, take, length-set, length-take}
 use lib.Seq.{length-take-le}
@@ -76,8 +78,11 @@ pub frame-length : (f g : List ℕ) (d : Deed) (b : ℕ) → length f ≡ 320 �
 frame-length f g d b l e = rw e (kept-length f d b ∙ l)
 
 module _ (ours : ℕ) (d : Deed) (f : List ℕ) (l : 320 ≡ length f) (got : Got) (g : List ℕ) (e : Gotten ours d f got g) (n : ℕ) (size : n ≡ sizeOf got) where
-  pub size-short : n ≤ 320
+  size-short : n ≤ 320
   size-short = rw (size, e .got, l) (got-size ours d f)
+
+  pub size-in-16-bits : Fits w16 n
+  size-in-16-bits = omega (arith, size-short)
 
   pub size-fits : n ≤ length g
   size-fits = let w = squeezed-length ours d f in rw (e .left, w, ← l) size-short
@@ -85,9 +90,6 @@ module _ (ours : ℕ) (d : Deed) (f : List ℕ) (l : 320 ≡ length f) (got : Go
 module _ (k : Controller) (v : Valid k) where
   pub text-fits : length (k .device .text) ≡ 256 → k .device .core .course .len ≤ length (k .device .text)
   text-fits l = let h = v .core .course .len in omega arith
-
-  pub sum-fits : (n : ℕ) → n ≤ 320 → k .device .core .course .len + n < 2 ^ 64
-  sum-fits n h = let l = v .core .course .len in omega arith
 
 -- the first bytes of a list
 pub part-count : (n : ℕ) (l : List ℕ) → n ≤ length l → n ≡ length (take n l)

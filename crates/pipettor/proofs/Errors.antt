@@ -38,9 +38,8 @@ use Rattle.buffer.specs.declared.order.Action.{Action}
 use Rattle.buffer.specs.declared.order.Action.the-variants as A
 use Rattle.buffer.specs.declared.order.Order.{Order}
 use Rattle.buffer.specs.declared.order.Order.the-variants as O
-use Rattle.buffer.specs.Course.{reached, passOf, goneOn, openedOf, closedBy, closedBare, closedOf}
+use Rattle.buffer.specs.Course.{reached, passOf, goneOn, openedOf, closedBy, closedBare, closedOf, halted}
 use Rattle.machine.specs.Step.{appliedOf, takenOf, carriedOn, activeOf, stepOf}
-use Rattle.buffer.specs.Course.{halted}
 use Rattle.buffer.specs.Order.{orderOf, sized, codeOf}
 use Rattle.machine.specs.Act.{haltOf, stopOf, actedOf}
 use Rattle.pipettor.specs.declared.acting.Got.{Got}

@@ -12,8 +12,8 @@ use reports::Told;
 use text::Control;
 use text::Data;
 ghost use mathlib.Core.Path.{_≡_};
-ghost use Prim.Native.Nat.{_+_, _<_, _^_};
 ghost use lib.ListN.{length};
+ghost use Rattle.machine.specs.Valid.{Valid};
 ghost use Rattle.reports.specs.Reports.{Tellable};
 ghost use Rattle.pipettor.specs.Byte.{actionOf, stringAction, taskOf, sizeOf, taskCode, taskDone, taskText, toldCode, outcomeOf, Fetched, Gotten, Spoken};
 
@@ -142,8 +142,8 @@ impl Task {
         }
     }
 
-    pub fn done(self, code: u8, n: usize, c: Core) -> Core
-        requires { ⌜ c .course .len + n < 2 ^ 64 ⌝ }
+    pub fn done(self, code: u8, n: u16, c: Core) -> Core
+        requires { ⌜ Valid c ⌝ }
         ensures { λ r. ⌜ r ≡ taskDone self code n c .next ⌝ }
     {
         match self {

@@ -112,7 +112,7 @@ impl Controller {
         let code = task.code(&text[..len], &frame[..n]);
         task.store(code, len, &frame[..n], &mut text);
         let outcome = got.outcome(address, code, core);
-        let done = task.done(code, n, core);
+        let done = task.done(code, n as u16, core);
         let said = outcome.say(done.ready(), buf);
         Reply {
             controller: Controller {

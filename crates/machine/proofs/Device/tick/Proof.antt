@@ -4,4 +4,4 @@ use Rattle.machine.proofs.Device.tick.Statement.{statement}
 use Rattle.machine.proofs.Device.tick.Tie as tie
 
 pub tick-spec : {M : Type 1} → statement M
-tick-spec = tie.close (tie.spec (λ c κs. search (needs, is-ticked)) (λ c. search (needs, is-ticked)))
+tick-spec = tie.close (tie.spec (λ c κs. search needs) (λ c. search (needs, is-ticked)))

@@ -1,6 +1,6 @@
 use mathlib.Core.Path.{sym}
 use borrow.Author.Needs.{needs}
-use Rattle.pipettor.proofs.Bytes.{short, frame-length, size-short, size-fits, text-fits, sum-fits, part-count, heard}
+use Rattle.pipettor.proofs.Bytes.{short, frame-length, size-in-16-bits, size-fits, text-fits, part-count, heard}
 use Rattle.pipettor.proofs.Controller.byte.Statement.{statement}
 use Rattle.pipettor.proofs.Controller.byte.Tie as tie
 
@@ -14,8 +14,9 @@ text-part c = text-fits _ (c .before .before .before .before .before .before .be
 frame-part : tie.Need-array-share-prefix-frame
 frame-part c = size-fits _ _ _ (frame-count (c .before .before .before .before .before .before)) _ _ (c .before .before .before .before .get .ensures) _ (c .before .size .ensures)
 
-sum : tie.Need-done-requires
-sum c κs = sum-fits _ (c .before .before .before .before .before .before .before .before .before .before .before .before .before .before .before .before .before .before .before .before .before .before .before .before .pre) _ (size-short _ _ _ (frame-count (c .before .before .before .before .before .before .before .before .before .before .before .before .before)) _ _ (c .before .before .before .before .before .before .before .before .before .before .before .get .ensures) _ (c .before .before .before .before .before .before .before .before .size .ensures))
+-- 16 bits count the characters of a text
+counted : tie.Need-cast-done
+counted c = size-in-16-bits _ _ _ (frame-count (c .before .before .before .before .before .before .before .before .before .before .before .before .before)) _ _ (c .before .before .before .before .before .before .before .before .before .before .before .get .ensures) _ (c .before .before .before .before .before .before .before .before .size .ensures)
 
 answers : tie.Need-returns-2
 answers c =
@@ -58,7 +59,8 @@ byte-spec =
     (λ c. search (needs, c .before .before .before .before .before .before .before .before .before .before .before .before .before .before .before .before .before .before .before .before .before .good))
     (λ c κs. search needs)
     (λ c κs. search needs)
-    sum
+    counted
+    (λ c κs. c .before .before .before .before .before .before .before .before .before .before .before .before .before .before .before .before .before .before .before .before .before .before .before .before .pre .core)
     (λ c κs. search needs)
     (λ c κs. search needs)
     (λ c. search needs)

@@ -4,4 +4,4 @@ use Rattle.pipettor.proofs.Controller.listen.Statement.{statement}
 use Rattle.pipettor.proofs.Controller.listen.Tie as tie
 
 pub listen-spec : {M : Type 1} → statement M
-listen-spec = tie.close (tie.spec (λ c κs. search (needs, is-listened)) (λ c. search (needs, is-listened)))
+listen-spec = tie.close (tie.spec (λ c κs. search needs) (λ c. search (needs, is-listened)))

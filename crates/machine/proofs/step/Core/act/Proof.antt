@@ -1,9 +1,9 @@
 use borrow.Author.Needs.{needs}
-use Rattle.machine.proofs.Acting.{accepts, refuses}
+use Rattle.machine.proofs.Acting.{length-fits, accepts, refuses}
 use Rattle.machine.proofs.step.Core.act.Statement.{statement}
 use Rattle.machine.proofs.step.Core.act.Tie as tie
 
-ruleset laws = (needs, accepts, refuses)
+ruleset laws = (needs, length-fits, accepts, refuses)
 
 pub act-spec : {M : Type 1} → statement M
 act-spec =
