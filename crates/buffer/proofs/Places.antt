@@ -12,7 +12,7 @@ use Rattle.buffer.specs.declared.course.Loops.{Loops}
 use Rattle.buffer.specs.declared.course.Course.{Course}
 use Rattle.buffer.specs.declared.course.Pass.{Pass}
 use Rattle.buffer.specs.declared.course.Pass.the-variants.{Again, Over}
-use Rattle.buffer.specs.Course.{courseOf, withError, anew, mark, noLoops, pushed, popped, repeated, bareRepeated, passOf, reached, goneOn, failedOf, openedOf, closedBy, closedBare, closedOf, inState, erasedOf, halted}
+use Rattle.buffer.specs.Course.{courseOf, withError, anew, mark, noLoops, pushed, popped, repeated, passOf, reached, goneOn, failedOf, openedOf, closedBy, closedOf, inState, erasedOf, halted}
 
 -- passes
 module _ (n p : ℕ) where
@@ -55,6 +55,10 @@ module _ (next : ℕ) (c r : Course) where
   unfolding openedOf
   too-deep h e = simp (le-ltb (c .loops .depth) 4 h, e)
 
+  pub nothing-open : (n : ℕ) → c .loops .depth ≡ 0 → r ≡ failedOf 3 c → r ≡ closedOf n next c
+  unfolding closedOf
+  nothing-open n h e = simp (tests, e)
+
   module _ (pass : Pass) where
     pub by-again : (p : ℕ) (l : Loops) → pass ≡ Again p → l ≡ repeated p (c .loops) → r ≡ reached (c .loops .first .start) l c → r ≡ closedBy pass next c
     unfolding closedBy
@@ -63,18 +67,6 @@ module _ (next : ℕ) (c r : Course) where
     pub by-over : (l : Loops) → pass ≡ Over → l ≡ popped (c .loops) → r ≡ reached next l c → r ≡ closedBy pass next c
     unfolding closedBy
     by-over l k q e = rw (k, ← q) e
-
-    pub bare-again : (p : ℕ) (l : Loops) → pass ≡ Again p → l ≡ bareRepeated p (c .loops) → r ≡ reached 0 l c → r ≡ closedBare pass next c
-    unfolding closedBare
-    bare-again p l k q e = rw (k, ← q) e
-
-    pub bare-over : pass ≡ Over → r ≡ reached next (c .loops) c → r ≡ closedBare pass next c
-    unfolding closedBare
-    bare-over k e = rw k e
-
-    pub closes-bare : (n : ℕ) → c .loops .depth ≡ 0 → pass ≡ passOf n (c .loops .bare) → r ≡ closedBare pass next c → r ≡ closedOf n next c
-    unfolding closedOf
-    closes-bare n h p e = simp (tests, ← p, e)
 
     pub closes-by : (n : ℕ) → (c .loops .depth ≡ 0 → ⊥) → pass ≡ passOf n (c .loops .first .passes) → r ≡ closedBy pass next c → r ≡ closedOf n next c
     unfolding closedOf
@@ -96,4 +88,4 @@ pub ruleset passing = (pass-endless, pass-again, pass-over)
 
 pub ruleset opening = (opens, too-deep)
 
-pub ruleset closing = (by-again, by-over, bare-again, bare-over, closes-bare, closes-by, deeper)
+pub ruleset closing = (by-again, by-over, nothing-open, closes-by, deeper)

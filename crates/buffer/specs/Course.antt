@@ -26,23 +26,20 @@ withError error c = courseOf (c .at) (c .len) (c .loops) (c .state) error
 abbrev pub mark : ℕ → ℕ → Mark
 mark start passes = record { start = start; passes = passes }
 
-abbrev pub loopsOf : ℕ → Mark → Mark → Mark → Mark → ℕ → Loops
-loopsOf depth a b c d bare = record { depth = depth; first = a; second = b; third = c; fourth = d; bare = bare }
+abbrev pub loopsOf : ℕ → Mark → Mark → Mark → Mark → Loops
+loopsOf depth a b c d = record { depth = depth; first = a; second = b; third = c; fourth = d }
 
 abbrev pub noLoops : Loops
-noLoops = loopsOf 0 (mark 0 0) (mark 0 0) (mark 0 0) (mark 0 0) 0
+noLoops = loopsOf 0 (mark 0 0) (mark 0 0) (mark 0 0) (mark 0 0)
 
 abbrev pub pushed : Mark → Loops → Loops
-pushed m l = loopsOf (l .depth + 1) m (l .first) (l .second) (l .third) (l .bare)
+pushed m l = loopsOf (l .depth + 1) m (l .first) (l .second) (l .third)
 
 abbrev pub popped : Loops → Loops
-popped l = loopsOf (l .depth - 1) (l .second) (l .third) (l .fourth) (mark 0 0) (l .bare)
+popped l = loopsOf (l .depth - 1) (l .second) (l .third) (l .fourth) (mark 0 0)
 
 abbrev pub repeated : ℕ → Loops → Loops
-repeated p l = loopsOf (l .depth) (mark (l .first .start) p) (l .second) (l .third) (l .fourth) (l .bare)
-
-abbrev pub bareRepeated : ℕ → Loops → Loops
-bareRepeated p l = loopsOf (l .depth) (l .first) (l .second) (l .third) (l .fourth) p
+repeated p l = loopsOf (l .depth) (mark (l .first .start) p) (l .second) (l .third) (l .fourth)
 
 -- "G n gives n passes in all"; "0 is endless", and its passes are not counted
 unfoldable pub passOf : ℕ → ℕ → Pass
@@ -86,16 +83,10 @@ unfoldable pub closedBy : Pass → ℕ → Course → Course
 closedBy (Again p) next c = reached (c .loops .first .start) (repeated p (c .loops)) c
 closedBy Over next c = reached next (popped (c .loops)) c
 
--- a bare G: "from the text's start"
-unfoldable pub closedBare : Pass → ℕ → Course → Course
-closedBare (Again p) next c = reached 0 (bareRepeated p (c .loops)) c
-closedBare Over next c = reached next (c .loops) c
-
+-- a G without an open g is never met (proofs/OnCourse)
 unfoldable pub closedOf : ℕ → ℕ → Course → Course
 closedOf n next c =
-    if eqb (c .loops .depth) 0
-    then closedBare (passOf n (c .loops .bare)) next c
-    else closedBy (passOf n (c .loops .first .passes)) next c
+    if eqb (c .loops .depth) 0 then failedOf 3 c else closedBy (passOf n (c .loops .first .passes)) next c
 
 -- "Then Stopped before the next command, loop counts kept, or Empty if none is left."
 unfoldable pub halted : Course → Course

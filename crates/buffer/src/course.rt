@@ -2,7 +2,7 @@
 use motion::Activity;
 ghost use mathlib.Core.Path.{_≡_};
 ghost use Prim.Native.Nat.{_<_};
-ghost use Rattle.buffer.specs.Course.{courseOf, mark, noLoops, pushed, popped, repeated, bareRepeated, passOf, reached, goneOn, failedOf, openedOf, closedBy, closedBare, closedOf, inState, withError, anew, erasedOf, waiting, begun, halted};
+ghost use Rattle.buffer.specs.Course.{courseOf, mark, noLoops, pushed, popped, repeated, passOf, reached, goneOn, failedOf, openedOf, closedBy, closedOf, inState, withError, anew, erasedOf, waiting, begun, halted};
 
 pub enum State {
     Empty,
@@ -18,14 +18,13 @@ pub struct Mark {
     pub passes: u32,
 }
 
-// Open loops, the innermost first, and the passes of a bare G.
+// Open loops, the innermost first.
 pub struct Loops {
     pub depth: usize,
     pub first: Mark,
     pub second: Mark,
     pub third: Mark,
     pub fourth: Mark,
-    pub bare: u32,
 }
 
 // The next command's place, the text's length, and the last error.
@@ -79,7 +78,6 @@ impl Loops {
                 start: 0,
                 passes: 0,
             },
-            bare: 0,
         }
     }
 
@@ -97,7 +95,6 @@ impl Loops {
             second: first,
             third: second,
             fourth: third,
-            bare: self.bare,
         }
     }
 
@@ -118,7 +115,6 @@ impl Loops {
                 start: 0,
                 passes: 0,
             },
-            bare: self.bare,
         }
     }
 
@@ -127,14 +123,6 @@ impl Loops {
     {
         let mut next = self;
         next.first.passes = passes;
-        next
-    }
-
-    fn repeat_bare(self, passes: u32) -> Loops
-        ensures { λ r. ⌜ r ≡ bareRepeated passes self ⌝ }
-    {
-        let mut next = self;
-        next.bare = passes;
         next
     }
 }
@@ -220,17 +208,6 @@ impl Course {
         }
     }
 
-    // A bare G.
-    fn close_bare(self, pass: Pass, next: usize) -> Course
-        ensures { λ r. ⌜ r ≡ closedBare pass next self ⌝ }
-    {
-        let loops = self.loops;
-        match pass {
-            Pass::Again(p) => self.reach(0, loops.repeat_bare(p)),
-            Pass::Over => self.reach(next, loops),
-        }
-    }
-
     // G, with the next command's place.
     pub fn close(self, n: u32, next: usize) -> Course
         ensures { λ r. ⌜ r ≡ closedOf n next self ⌝ }
@@ -238,8 +215,7 @@ impl Course {
         let loops = self.loops;
         let depth = loops.depth;
         if depth == 0 {
-            let bare = loops.bare;
-            return self.close_bare(next_pass(n, bare), next);
+            return self.failed(3);
         }
         let first = loops.first;
         let passes = first.passes;

@@ -145,7 +145,7 @@ module _ (c : Core) where
   applied-stays (Goes m) next = gone-on-stays (c .course) (m .activity) next
   applied-stays (Fails code) next = inr refl
   applied-stays Opens next = behind-open (Stays (c .course)) (c .course) (reached-stays (c .course)) (inr refl) next
-  applied-stays (Closes n) next = behind-close (Stays (c .course)) (c .course) (reached-stays (c .course)) n next
+  applied-stays (Closes n) next = behind-close (Stays (c .course)) (c .course) (reached-stays (c .course)) (inr refl) n next
 
   taken-stays : (f : Found) → Stays (c .course) (takenOf f c .next .course)
   unfolding takenOf

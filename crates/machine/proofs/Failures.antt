@@ -1,10 +1,10 @@
 -- Theorems: what on course means for a run: where it is in its text, that it always meets a command, and that it fails by 7 or 3 only.
-use mathlib.Core.Path.{_≡_, refl, sym, ap, subst, _∙_}
-use mathlib.Core.Bool.{Bool, true, false, _||_}
-use mathlib.Core.List.{List, [], _∷_, _++_}
-use Prim.Native.Nat.{ℕ, zero, suc, _+_, _≤_, _<_}
+use mathlib.Core.Path.{_≡_, refl, sym, subst, _∙_}
+use mathlib.Core.Bool.{true, false}
+use mathlib.Core.List.{List}
+use Prim.Native.Nat.{ℕ, _+_, _<_}
 use native.Mathlib.Omega.{arith}
-use borrow.Author.Tests.{lt-ltb}
+use borrow.Author.Tests.{lt-ltb, ne-eqb}
 use lib.Dec.{ltb, eqb}
 use lib.ListN.{take}
 use Rattle.basics.proofs.Choice.{by}
@@ -26,90 +26,57 @@ use Rattle.command.specs.declared.Command.the-variants as C
 use Rattle.command.specs.declared.Found.{Found}
 use Rattle.command.specs.declared.Found.the-variants as F
 use Rattle.command.specs.Command.{commandAt}
-use Rattle.text.specs.declared.loops.Level.{Level}
-use Rattle.text.specs.declared.loops.Level.the-variants.{At}
-use Rattle.text.specs.Text.{Step, reads, readOf}
-use Rattle.text.specs.Loops.{Part, opens, partOf, levelOf, follow, levels, closed, loopsOk, commands}
+use Rattle.text.specs.Text.{reads, readOf}
+use Rattle.text.specs.Loops.{Part, opens, closes, partOf, loopsOk}
+use Rattle.text.specs.Inside.{Before}
 use Rattle.buffer.specs.declared.course.State.{State}
 use Rattle.buffer.specs.declared.course.State.the-variants.{Empty, Running}
 use Rattle.buffer.specs.declared.course.Loops.{Loops}
 use Rattle.buffer.specs.declared.course.Course.{Course}
-use Rattle.buffer.specs.Course.{mark, pushed, reached, goneOn, failedOf, openedOf}
+use Rattle.buffer.specs.Course.{mark, pushed, passOf, reached, goneOn, failedOf, openedOf, closedOf}
 use Rattle.machine.specs.declared.step.Core.{Core}
 use Rattle.machine.specs.Step.{core, appliedOf, takenOf, carriedOn, activeOf, stepOf}
-use Rattle.text.proofs.Tiles.{Tiled, a-part-reads}
-use Rattle.text.proofs.Levels.{levels-append}
+use Rattle.text.proofs.Trees.{every-tree-is-accepted}
+use Rattle.text.proofs.Inside.{the-commands-before-a-place-read}
 use Rattle.machine.specs.History.{Call, after}
-use Rattle.machine.proofs.Looping.{behind-close}
-use Rattle.machine.proofs.OnWay.{next-of, level-opens, level-closes}
-use Rattle.machine.specs.OnCourse.{Before, Meets, Failing, uninitialised, outside, Fault, Leads, at-once, behind, Stands, OnWay, Ahead, CourseOn, AllSent}
+use Rattle.machine.proofs.Looping.{closed-by}
+use Rattle.machine.proofs.OnWay.{ahead-of, way-room, way-ends, way-deep, way-start}
+use Rattle.machine.specs.OnCourse.{Meets, HasItsG, Failing, uninitialised, outside, Fault, OnWay, Ahead, CourseOn, AllSent}
 use Rattle.machine.proofs.OnCourse.{Fits, effect-fits, every-device-is-on-course}
 
-or-true : (x : Bool) → (x || true) ≡ true
-or-true true = refl
-or-true false = refl
+-- what on course means: the text reads, its loops are right, and the commands before the run's place leave as many open as the run holds
+pub a-text-on-its-way-is-accepted : (t : List ℕ) (at : ℕ) (l : Loops) → (w : OnWay t at l) → (readOf t ≡ reads (w .may .steps)) × (loopsOk (w .may .steps) ≡ true)
+a-text-on-its-way-is-accepted t at l w = (w .may .reading, every-tree-is-accepted (w .may .steps) (w .may .tree))
 
--- what on course means: the text reads, and its loops are right
-pub a-text-on-its-way-is-accepted : (t : List ℕ) (at : ℕ) (l : Loops) → (w : OnWay t at l) → (readOf t ≡ reads (w .right .whole .steps)) × (loopsOk (commands (w .right .whole .steps)) ≡ true)
-unfolding readOf loopsOk
-a-text-on-its-way-is-accepted t at l w = (w .right .whole .follows, go (w .first) (w .right .most) (w .right .whole .closes))
-  where
-    go : (first : ℕ) → first ≤ 1 → levels (commands (w .right .whole .steps)) first ≡ At 0 → (closed (levels (commands (w .right .whole .steps)) 0) || closed (levels (commands (w .right .whole .steps)) 1)) ≡ true
-    go zero h e = rw e
-    go (suc zero) h e = rw e (or-true (closed (levels (commands (w .right .whole .steps)) 0)))
-    go (suc (suc n)) h e = absurd (omega arith)
+pub the-check-counts-as-the-run-does : (t : List ℕ) (at : ℕ) (l : Loops) → OnWay t at l → Before t at (l .depth)
+the-check-counts-as-the-run-does t at l w =
+    subst (Before t at) (sym (w .deep)) (the-commands-before-a-place-read t (w .may) at (w .rounds) (w .place))
 
--- and the commands before a place read, and leave as many loops open as are counted
-module _ (t : List ℕ) (first : ℕ) where
-  tiled-on : (from : ℕ) (steps : List Step) (at : ℕ) (k : Command) (next : ℕ) → Tiled t from steps at → commandAt t at ≡ F.Command k next → Tiled t from (steps ++ record { at = at; command = k; next = next } ∷ []) next
-  tiled-on from [] at k next w e = (sym w, ap (commandAt t) w ∙ e, refl)
-  tiled-on from (s ∷ steps) at k next w e = (w .0, w .1, tiled-on (s .next) steps at k next (w .2) e)
-
-  commands-on : (steps : List Step) (s : Step) → commands (steps ++ s ∷ []) ≡ commands steps ++ s .command ∷ []
-  commands-on [] s = refl
-  commands-on (r ∷ steps) s = ap (_∷_ (r .command)) (commands-on steps s)
-
-  level-on : (l : Level) (n m : ℕ) (k : Command) → l ≡ At n → levelOf n (partOf k) ≡ At m → follow l (levels (k ∷ [])) ≡ At m
-  unfolding levels
-  level-on l n m k p e = rw (p, e)
-
-  led-by : (at n : ℕ) → Leads t 0 0 first at n → (steps : List Step) × Tiled t 0 steps at × (levels (commands steps) first ≡ At n)
-  unfolding levels
-  led-by at n at-once = ([], refl, refl)
-  led-by at n (behind at₁ n₁ k next m l e q b) =
-      let (steps, w, c) = led-by at₁ n₁ l in
-      let s : Step = record { at = at₁; command = k; next = next } in (
-        steps ++ s ∷ [],
-        tiled-on 0 steps at₁ k next w e,
-        ap (λ (u : List Command). levels u first) (commands-on steps s) ∙
-            levels-append (commands steps) (k ∷ []) first ∙ level-on (levels (commands steps) first) n₁ m k c q,
-      )
-
-  pub the-commands-before-a-place-read : (at n : ℕ) → Stands t first at n → Before t first at n
-  the-commands-before-a-place-read at n s =
-      let (steps, w, c) = led-by at n (s .led) in
-      record { steps = steps; reading = a-part-reads t steps at w; counted = c }
-
--- no tick meets a command that doesn't read, nor a fifth loop
+-- no tick meets a command that doesn't read, nor a fifth loop, nor a G without its g
 module _ (text : List ℕ) (c : Course) where
   pub a-run-meets-a-command : c .state ≡ Running Between → CourseOn text c → Meets text c
   a-run-meets-a-command e o =
       let t = take (c .len) text in
       let a : Ahead t (c .at) (c .loops) = rw e at o in
-      let n = next-of t (a .way .first) (c .at) (c .loops .depth + a .way .bare) (a .way .here) (a .left) in
+      let n = ahead-of t (c .at) (c .loops) a in
       record {
         command = n .command;
         next = n .next;
         found = n .found;
-        shallow =
-            λ k.
-            let h = level-opens (c .loops .depth + a .way .bare) (n .after) (rw k at (n .level)) in
-            omega (arith, h .0);
+        shallow = way-room t (c .at) (c .loops) (a .way) n;
         back =
-            λ k p d.
-            let h = level-closes (c .loops .depth + a .way .bare) k (n .after) (rw p at (n .level)) in
-            let one : a .way .first ≡ 1 = omega (arith, h .0, a .way .least, a .way .right .most) in
-            rw one at (a .way .right);
+            λ k is.
+            let r = way-ends t (c .at) (c .loops) (a .way) n k is in
+            record {
+              may = a .way .may;
+              round = r .round;
+              outer = r .outer;
+              of-the-tree = r .of-the-tree;
+              closes-it = r .closes-it;
+              passes = r .passes;
+              deep = way-deep t (c .at) (c .loops) (a .way) n k is;
+              behind-its-g = way-start t (c .at) (c .loops) (a .way) n k is;
+            };
       }
 
 -- how a command fails
@@ -167,14 +134,20 @@ module _ (c : Course) where
   unfolding openedOf
   opened-stays next h = rw (lt-ltb (c .loops .depth) 4 h) (reached-stays next (pushed (mark next 0) (c .loops)))
 
+  closed-stays : (n next : ℕ) → (c .loops .depth ≡ 0 → ⊥) → closedOf n next c .state ≡ Empty → ⊥
+  unfolding closedOf
+  closed-stays n next h =
+      rw (ne-eqb (c .loops .depth) 0 h)
+      (closed-by (λ (d : Course). d .state ≡ Empty → ⊥) c reached-stays (passOf n (c .loops .first .passes)) next)
+
 -- a command that erases the text is one that fails
-module _ (c : Core) (p : Part) (next : ℕ) (shallow : p ≡ opens → c .course .loops .depth < 4) where
+module _ (c : Core) (p : Part) (next : ℕ) (shallow : p ≡ opens → c .course .loops .depth < 4) (held : (n : ℕ) → p ≡ closes n → c .course .loops .depth ≡ 0 → ⊥) where
   erased-by : (e : Effect) → Fits e p → appliedOf e next c .course .state ≡ Empty → (code : ℕ) × (e ≡ Fails code)
   unfolding appliedOf
   erased-by (Goes m) f h = absurd (gone-on-stays (c .course) (m .activity) next h)
   erased-by (Fails code) f h = (code, refl)
   erased-by Opens f h = absurd (opened-stays (c .course) next (shallow f) h)
-  erased-by (Closes n) f h = absurd (behind-close (λ (d : Course). d .state ≡ Empty → ⊥) (c .course) (reached-stays (c .course)) n next h)
+  erased-by (Closes n) f h = absurd (closed-stays (c .course) n next (held n f) h)
 
 step-fails :
     (text : List ℕ) (c : Core) (k : Command) (next code : ℕ) → c .course .state ≡ Running Between →
@@ -193,7 +166,7 @@ module _ (text : List ℕ) (c : Core) where
   taken-fails s o f e h =
       let m = a-run-meets-a-command text (c .course) s o in
       let q = sym e ∙ m .found in
-      let (code, is) = erased-by c (partOf (m .command)) (m .next) (m .shallow) (effectOf (m .command) (c .body) .next) (effect-fits (m .command) (c .body)) (rw q at h) in
+      let (code, is) = erased-by c (partOf (m .command)) (m .next) (m .shallow) (λ n is z. omega (arith, m .back n is .deep)) (effectOf (m .command) (c .body) .next) (effect-fits (m .command) (c .body)) (rw q at h) in
       record {
         between = s;
         command = m .command;

@@ -52,7 +52,7 @@ module _ (c : Core) (ok : Valid c) where
   applied-ok (Goes m) next h = record { body = h .body; course = gone-on-ok (c .course) (ok .course) (m .activity) next (h .activity) }
   applied-ok (Fails code) next h = record { body = ok .body; course = failed-ok (c .course) (ok .course) code }
   applied-ok Opens next h = record { body = ok .body; course = behind-open CourseOk (c .course) (reached-ok (c .course) (ok .course)) (failed-ok (c .course) (ok .course) 3) next }
-  applied-ok (Closes n) next h = record { body = ok .body; course = behind-close CourseOk (c .course) (reached-ok (c .course) (ok .course)) n next }
+  applied-ok (Closes n) next h = record { body = ok .body; course = behind-close CourseOk (c .course) (reached-ok (c .course) (ok .course)) (failed-ok (c .course) (ok .course) 3) n next }
 
   taken-ok : (f : Found) → ((k : Command) (next : ℕ) → f ≡ F.Command k next → Allowed k) → Valid (takenOf f c .next)
   unfolding takenOf

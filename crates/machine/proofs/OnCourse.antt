@@ -1,10 +1,10 @@
 -- Theorems: the fresh device is on course, every call keeps it there, and so does any list of calls.
 use mathlib.Core.Path.{_≡_, refl, sym, ap, _∙_}
-use mathlib.Core.Bool.{Bool, true, false, _||_, false≢true}
+use mathlib.Core.Bool.{Bool, true, false}
 use mathlib.Core.List.{List, [], _∷_, _++_, append-nil}
 use Prim.Native.Nat.{ℕ, _+_, _-_, _≤_, _<_}
 use native.Mathlib.Omega.{arith}
-use borrow.Author.Tests.{ltb-true, ltb-false, eqb-true, eqb-false, lt-ltb}
+use borrow.Author.Tests.{ltb-true, ltb-false, eqb-true, lt-ltb, ne-eqb}
 use lib.Dec.{ltb, eqb}
 use lib.ListN.{length, take, length-append}
 use lib.Seq.{length-take-le}
@@ -27,17 +27,16 @@ use Rattle.command.specs.declared.Command.the-variants as C
 use Rattle.command.specs.declared.Found.{Found}
 use Rattle.command.specs.declared.Found.the-variants as F
 use Rattle.command.specs.Command.{commandAt}
-use Rattle.text.specs.declared.loops.Level.{Level}
-use Rattle.text.specs.declared.loops.Level.the-variants.{At, Broken}
 use Rattle.text.specs.Text.{Step, reads, readFrom, readOf}
-use Rattle.text.specs.Loops.{Part, opens, closes, plain, partOf, levels, closed, loopsOk, commands, loopsIn}
+use Rattle.text.specs.Loops.{Part, opens, closes, plain, partOf, loopsOk, loopsIn}
+use Rattle.text.specs.Inside.{MayRun}
 use Rattle.buffer.specs.declared.course.State.{State}
 use Rattle.buffer.specs.declared.course.State.the-variants.{Empty, Stored, Running, Stopped, Done}
 use Rattle.buffer.specs.declared.course.Loops.{Loops}
 use Rattle.buffer.specs.declared.course.Course.{Course}
 use Rattle.buffer.specs.declared.course.Pass.{Pass}
 use Rattle.buffer.specs.declared.course.Pass.the-variants.{Again, Over}
-use Rattle.buffer.specs.Course.{mark, pushed, popped, repeated, bareRepeated, noLoops, passOf, reached, goneOn, openedOf, closedBy, closedBare, closedOf, halted}
+use Rattle.buffer.specs.Course.{mark, pushed, popped, repeated, noLoops, passOf, reached, goneOn, openedOf, closedBy, closedOf, halted}
 use Rattle.machine.specs.declared.step.Core.{Core}
 use Rattle.buffer.specs.declared.order.Action.{Action}
 use Rattle.buffer.specs.declared.order.Action.the-variants as A
@@ -49,6 +48,8 @@ use Rattle.buffer.specs.Order.{orderOf, laidBy, storedBy}
 use Rattle.machine.specs.Act.{haltOf, stopOf, doneOf, actedOf, actOf, textOf}
 use Rattle.machine.specs.Valid.{Ready}
 use Rattle.text.proofs.Joins.{moved, joined-texts-read, joined-texts-loop}
+use Rattle.text.proofs.Trees.{what-is-accepted-is-a-tree}
+use Rattle.text.proofs.Inside.{Next, a-place-lies-inside, the-start}
 use Rattle.machine.specs.Device.{freshOf, tickOf, haltedOf}
 use Rattle.machine.specs.History.{Call, callOf, afterOf, after}
 use Rattle.machine.specs.History.Call.{tick, act, stop}
@@ -57,9 +58,9 @@ use Rattle.machine.proofs.Keeps.{step-keeps}
 use Rattle.machine.proofs.KeepsActs.{act-keeps, stop-keeps, text-keeps-its-length}
 use Rattle.machine.proofs.History.{every-call-leaves-the-device-ready}
 use Rattle.machine.proofs.Refusals.{what-is-accepted-fits, what-is-accepted-loops}
-use Rattle.machine.proofs.OnWay.{a-place-lies-inside, Next, next-of, level-opens, level-plain, way-on, way-open, way-back, way-out, bare-back, bare-out}
+use Rattle.machine.proofs.OnWay.{ahead-of, way-on, way-room, way-open, way-deep, way-back, way-out}
 use Rattle.machine.proofs.Stored.{take-laid, take-front}
-use Rattle.machine.specs.OnCourse.{at-once, Right, OnWay, Loaded, Ahead, AheadIn, Through, StateOn, CourseOn, OnCourse, SentBy, AllSent}
+use Rattle.machine.specs.OnCourse.{OnWay, Loaded, Ahead, AheadIn, Through, StateOn, CourseOn, OnCourse, SentBy, AllSent}
 
 -- what a command does, by what it is to the loops
 abbrev pub Fits : Effect → Part → Type 0
@@ -94,7 +95,7 @@ module _ (text : List ℕ) (c : Course) (all : length (take (c .len) text) ≡ c
   unfolding reached
   reached-on at l w =
       let t = take (c .len) text in
-      let inside = a-place-lies-inside t (w .first) at (l .depth + w .bare) (w .here) in
+      let inside = a-place-lies-inside t (w .may) at (w .rounds) (w .place) in
       by (λ (s : State). StateOn s t at l) (ltb at (c .len))
       (λ h. record { way = w; left = omega (arith, ltb-true at (c .len) h) })
       (λ h. record { way = w; through = omega (arith, ltb-false at (c .len) h) })
@@ -106,39 +107,31 @@ module _ (text : List ℕ) (c : Course) (all : length (take (c .len) text) ≡ c
   gone-on-on (Delaying k) at w = w
   gone-on-on Between at w = reached-on at (c .loops) w
 
-  module _ (w : OnWay (take (c .len) text) (c .at) (c .loops)) (n : Next (take (c .len) text) (w .first) (c .at) (c .loops .depth + w .bare)) where
+  module _ (w : OnWay (take (c .len) text) (c .at) (c .loops)) (n : Next (take (c .len) text) (w .may) (c .at) (w .rounds)) where
     opened-on : partOf (n .command) ≡ opens → CourseOn text (openedOf (n .next) c)
     unfolding openedOf
     opened-on o =
-        let h = level-opens (c .loops .depth + w .bare) (n .after) (rw o at (n .level)) .0 in
-        rw (lt-ltb (c .loops .depth) 4 (omega arith))
+        rw (lt-ltb (c .loops .depth) 4 (way-room (take (c .len) text) (c .at) (c .loops) w n o))
         (reached-on (n .next) (pushed (mark (n .next) 0) (c .loops)) (way-open (take (c .len) text) (c .at) (c .loops) w n o))
 
     module _ (k : ℕ) (is : partOf (n .command) ≡ closes k) where
-      closed-by-on : (c .loops .depth ≡ 0 → ⊥) → (p : Pass) → CourseOn text (closedBy p (n .next) c)
+      closed-by-on : (p : Pass) → CourseOn text (closedBy p (n .next) c)
       unfolding closedBy
-      closed-by-on deep (Again p) = reached-on (c .loops .first .start) (repeated p (c .loops)) (way-back (take (c .len) text) (c .at) (c .loops) w n k is deep p)
-      closed-by-on deep Over = reached-on (n .next) (popped (c .loops)) (way-out (take (c .len) text) (c .at) (c .loops) w n k is deep)
-
-      closed-bare-on : c .loops .depth ≡ 0 → (p : Pass) → CourseOn text (closedBare p (n .next) c)
-      unfolding closedBare
-      closed-bare-on flat (Again p) = reached-on 0 (bareRepeated p (c .loops)) (bare-back (take (c .len) text) (c .at) (c .loops) w n k is flat p)
-      closed-bare-on flat Over = reached-on (n .next) (c .loops) (bare-out (take (c .len) text) (c .at) (c .loops) w n k is flat)
+      closed-by-on (Again p) = reached-on (c .loops .first .start) (repeated p (c .loops)) (way-back (take (c .len) text) (c .at) (c .loops) w n k is p)
+      closed-by-on Over = reached-on (n .next) (popped (c .loops)) (way-out (take (c .len) text) (c .at) (c .loops) w n k is)
 
       closed-on : CourseOn text (closedOf k (n .next) c)
       unfolding closedOf
       closed-on =
-          by (CourseOn text) (eqb (c .loops .depth) 0)
-          (λ h. closed-bare-on (eqb-true (c .loops .depth) 0 h) (passOf k (c .loops .bare)))
-          (λ h. closed-by-on (eqb-false (c .loops .depth) 0 h) (passOf k (c .loops .first .passes)))
+          rw (ne-eqb (c .loops .depth) 0 (λ h. omega (arith, way-deep (take (c .len) text) (c .at) (c .loops) w n k is)))
+          (closed-by-on (passOf k (c .loops .first .passes)))
 
 module _ (text : List ℕ) (c : Core) (all : length (take (c .course .len) text) ≡ c .course .len) where
-  module _ (w : OnWay (take (c .course .len) text) (c .course .at) (c .course .loops)) (n : Next (take (c .course .len) text) (w .first) (c .course .at) (c .course .loops .depth + w .bare)) where
+  module _ (w : OnWay (take (c .course .len) text) (c .course .at) (c .course .loops)) (n : Next (take (c .course .len) text) (w .may) (c .course .at) (w .rounds)) where
     applied-on : (e : Effect) → Fits e (partOf (n .command)) → CourseOn text (appliedOf e (n .next) c .course)
     unfolding appliedOf
     applied-on (Goes m) p =
-        let same = level-plain (c .course .loops .depth + w .bare) (n .after) (rw p at (n .level)) in
-        gone-on-on text (c .course) all (m .activity) (n .next) (way-on (take (c .course .len) text) (c .course .at) (c .course .loops) w n same)
+        gone-on-on text (c .course) all (m .activity) (n .next) (way-on (take (c .course .len) text) (c .course .at) (c .course .loops) w n p)
     applied-on (Fails code) p = tt
     applied-on Opens p = opened-on text (c .course) all w n p
     applied-on (Closes k) p = closed-on text (c .course) all w n k p
@@ -154,7 +147,7 @@ module _ (text : List ℕ) (c : Core) (all : length (take (c .course .len) text)
   ahead : Ahead (take (c .course .len) text) (c .course .at) (c .course .loops) → CourseOn text (takenOf (commandAt (take (c .course .len) text) (c .course .at)) c .next .course)
   ahead o =
       let t = take (c .course .len) text in
-      let n = next-of t (o .way .first) (c .course .at) (c .course .loops .depth + o .way .bare) (o .way .here) (o .left) in
+      let n = ahead-of t (c .course .at) (c .course .loops) o in
       taken-on (o .way) n (commandAt t (c .course .at)) (n .found)
 
   active-on : (s : State) → StateOn s (take (c .course .len) text) (c .course .at) (c .course .loops) → CourseOn text (c .course) → CourseOn text (activeOf s text c .next .course)
@@ -173,28 +166,11 @@ module _ (text : List ℕ) (c : Core) (all : length (take (c .course .len) text)
   a-tick-keeps-on-course o = active-on (c .course .state) o o
 
 -- the start of a run
-none-left : (l : Level) → closed l ≡ true → l ≡ At 0
-none-left (At d) e = ap At (eqb-true d 0 e)
-none-left Broken e = absurd (false≢true e)
+starts-on : (t : List ℕ) → MayRun t → Ahead t 0 noLoops
+starts-on t may = record { way = record { may = may; rounds = []; place = the-start t may; deep = refl; marked = tt }; left = may .some }
 
-way-start : (t : List ℕ) (first : ℕ) → Right t first → Ahead t 0 noLoops
-way-start t first r =
-    let z : 0 + first ≡ first = omega arith in
-    record {
-      way = record { first = first; bare = first; right = r; least = omega arith; here = rw z (r .whole); round = rw z at-once };
-      left = r .some;
-    }
-
-begins : (t : List ℕ) (steps : List Step) → readOf t ≡ reads steps → loopsOk (commands steps) ≡ true → 0 < length t → Ahead t 0 noLoops
-unfolding readOf loopsOk
-begins t steps e ok some = go (closed (levels (commands steps) 0)) refl (closed (levels (commands steps) 1)) refl ok
-  where
-    go :
-        (x : Bool) → closed (levels (commands steps) 0) ≡ x → (y : Bool) → closed (levels (commands steps) 1) ≡ y → (x || y) ≡ true →
-        Ahead t 0 noLoops
-    go true p y q h = way-start t 0 (record { some = some; most = omega arith; whole = record { led = at-once; steps = steps; follows = e; closes = none-left (levels (commands steps) 0) p } })
-    go false p true q h = way-start t 1 (record { some = some; most = omega arith; whole = record { led = at-once; steps = steps; follows = e; closes = none-left (levels (commands steps) 1) q } })
-    go false p false q h = absurd (false≢true h)
+begins : (t : List ℕ) (steps : List Step) → readOf t ≡ reads steps → loopsOk steps ≡ true → 0 < length t → Ahead t 0 noLoops
+begins t steps e ok some = starts-on t (record { steps = steps; reading = e; some = some; tree = what-is-accepted-is-a-tree steps ok })
 
 begins-alone : (t : List ℕ) → Loaded t → loopsIn (readOf []) (readOf t) ≡ true → Ahead t 0 noLoops
 unfolding readOf readFrom
@@ -309,7 +285,7 @@ module _ (text : List ℕ) (c : Core) (all : length (take (c .course .len) text)
   done-on O.Resume added was g fit ok = g
   done-on O.EndDelay added was g fit ok = reached-on text (c .course) all (c .course .at) (c .course .loops) g
   done-on O.Repeat added was g fit ok =
-      way-start (take (c .course .len) text) (g .way .first) (g .way .right)
+      starts-on (take (c .course .len) text) (g .way .may)
   done-on O.Erase added was g fit ok = tt
   done-on O.Halt added was g fit ok = a-stop-keeps-on-course was
   done-on O.Reset added was g fit ok = tt

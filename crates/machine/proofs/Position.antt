@@ -216,7 +216,7 @@ module _ (c : Core) where
   applied-tells (Goes m) next s told = gone-on-tells m next (c .course) s told
   applied-tells (Fails code) next s told = told
   applied-tells Opens next s told = rests-told (openedOf next (c .course)) (c .body) s (behind-open Rests (c .course) (reached-rests (c .course)) refl next) told
-  applied-tells (Closes n) next s told = rests-told (closedOf n next (c .course)) (c .body) s (behind-close Rests (c .course) (reached-rests (c .course)) n next) told
+  applied-tells (Closes n) next s told = rests-told (closedOf n next (c .course)) (c .body) s (behind-close Rests (c .course) (reached-rests (c .course)) refl n next) told
 
   taken-tells : (f : Found) (s : Sum) → Told (c .body .plunger) (c .body .exact) s → CoreTold (takenOf f c .next) (addedUp s (takenOf f c .events))
   unfolding takenOf addedUp

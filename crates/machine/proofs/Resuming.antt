@@ -14,7 +14,7 @@ use Rattle.buffer.specs.declared.course.Course.{Course}
 use Rattle.buffer.specs.declared.course.Pass.the-variants.{Again}
 use Rattle.machine.specs.declared.step.Core.{Core}
 use Rattle.buffer.specs.declared.order.Action.the-variants as A
-use Rattle.buffer.specs.Course.{courseOf, inState, withError, passOf, reached, closedBy, closedBare, closedOf, halted}
+use Rattle.buffer.specs.Course.{courseOf, inState, withError, passOf, reached, closedBy, closedOf, halted}
 use Rattle.machine.specs.Step.{core}
 use Rattle.buffer.specs.Order.{orderOf, codeOf}
 use Rattle.machine.specs.Act.{haltOf, stopOf, doneOf, actedOf, actOf}
@@ -70,8 +70,3 @@ pub an-endless-G-goes-back :
     closedOf 0 next c ≡ reached (c .loops .first .start) (c .loops) c
 unfolding closedOf closedBy passOf
 an-endless-G-goes-back next c h = rw (ne-eqb (c .loops .depth) 0 h)
-
-pub an-endless-bare-G-goes-to-the-start :
-    (next : ℕ) (c : Course) → c .loops .depth ≡ 0 → closedOf 0 next c ≡ reached 0 (c .loops) c
-unfolding closedOf closedBare passOf
-an-endless-bare-G-goes-to-the-start next c h = rw h

@@ -21,7 +21,7 @@ use Rattle.motion.specs.Motion as Motion
 use Rattle.buffer.specs.declared.course.State.{State}
 use Rattle.buffer.specs.declared.course.State.the-variants.{Empty, Running, Done}
 use Rattle.buffer.specs.declared.order.Action.the-variants.{Launch}
-use Rattle.buffer.specs.Course.{passOf, reached, goneOn, openedOf, closedBy, closedBare, closedOf}
+use Rattle.buffer.specs.Course.{passOf, reached, goneOn, openedOf, closedBy, closedOf}
 use Rattle.machine.specs.Step as Step
 use Rattle.buffer.specs.Order.{orderOf, sized, codeOf, laidBy, storedBy}
 use Rattle.machine.specs.Act.{doneOf, actedOf, actOf, textOf}
@@ -47,7 +47,7 @@ shown calls = let c = after calls .core .course in record { state = c .state; at
 abbrev shows : State → ℕ → ℕ → ℕ → Shown
 shows state at depth error = record { state = state; at = at; depth = depth; error = error }
 
--- two loops open; back behind the inner g; out of both; back at the start by a bare G; 7 and 3
+-- two loops open; back behind the inner g; out of both; a G without an open g is refused at once; 7 and 3
 pub runs-loop-and-fail :
     shown (runs "gWgWG2G3" 3)
     ∷ shown (runs "gWgWG2G3" 5)
@@ -59,11 +59,11 @@ pub runs-loop-and-fail :
     ≡ shows (Running Between) 3 2 0
     ∷ shows (Running Between) 3 2 0
     ∷ shows Done 8 0 0
-    ∷ shows (Running Between) 0 0 0
+    ∷ shows Empty 0 0 3
     ∷ shows Empty 0 0 7
     ∷ shows Empty 0 0 3
     ∷ []
-unfolding digit every valueOf over fits laidIn within rateOf millionthsOf goalOf goneOf run rest digits decimalsOf followedOf numberOf behindComma pairOf letterOf allowed takenOf wholeOf nanolitresOf made both inUnit volumeOf compensationOf commandOf placed foundIn commandAt readFrom readOf levelOf levels loopsOk Motion.plungerOf Motion.homeOf Motion.within Motion.targetOf Motion.setOut Motion.aimed Motion.moveOf Motion.effectOf Motion.carried Motion.onwardOf Motion.freshBody passOf reached goneOn openedOf closedBy closedBare closedOf Step.appliedOf Step.takenOf Step.carriedOn Step.activeOf Step.stepOf orderOf sized codeOf doneOf laidBy storedBy actedOf actOf textOf freshOf tickOf callOf afterOf after
+unfolding digit every valueOf over fits laidIn within rateOf millionthsOf goalOf goneOf run rest digits decimalsOf followedOf numberOf behindComma pairOf letterOf allowed takenOf wholeOf nanolitresOf made both inUnit volumeOf compensationOf commandOf placed foundIn commandAt readFrom readOf levelOf levels loopsOk Motion.plungerOf Motion.homeOf Motion.within Motion.targetOf Motion.setOut Motion.aimed Motion.moveOf Motion.effectOf Motion.carried Motion.onwardOf Motion.freshBody passOf reached goneOn openedOf closedBy closedOf Step.appliedOf Step.takenOf Step.carriedOn Step.activeOf Step.stepOf orderOf sized codeOf doneOf laidBy storedBy actedOf actOf textOf freshOf tickOf callOf afterOf after
 runs-loop-and-fail = refl
 
 -- the strings of such calls are texts that read, and so the device is on course

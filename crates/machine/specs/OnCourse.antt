@@ -1,9 +1,9 @@
 -- On course: what holds of every device that comes from making and earlier calls. No function asks for it.
-use Prim.Native.Nat.{ℕ, zero, suc, _+_, _≤_, _<_}
+use Prim.Native.Nat.{ℕ, _+_, _<_}
 use mathlib.Core.Path.{_≡_}
 use mathlib.Core.Bool.{true, false}
 use mathlib.Core.List.{List, [], _∷_}
-use lib.ListN.{length, take, drop}
+use lib.ListN.{length, take}
 use Rattle.motion.specs.declared.Activity.{Activity}
 use Rattle.motion.specs.declared.Activity.the-variants.{Initialising, Moving, Delaying, Between}
 use Rattle.motion.specs.declared.Body.{Body}
@@ -16,9 +16,9 @@ use Rattle.command.specs.declared.Command.{Command}
 use Rattle.command.specs.declared.Command.the-variants as C
 use Rattle.command.specs.declared.Found.the-variants as F
 use Rattle.command.specs.Command.{commandAt}
-use Rattle.text.specs.declared.loops.Level.the-variants.{At}
-use Rattle.text.specs.Text.{Step, reads, readFrom, readOf}
-use Rattle.text.specs.Loops.{opens, closes, partOf, levelOf, levels, commands}
+use Rattle.text.specs.Text.{Step, reads, readOf}
+use Rattle.text.specs.Loops.{opens, closes, partOf}
+use Rattle.text.specs.Inside.{Round, loopOf, Inside, MayRun, Place}
 use Rattle.buffer.specs.declared.course.State.{State}
 use Rattle.buffer.specs.declared.course.State.the-variants.{Empty, Stored, Running, Stopped, Done}
 use Rattle.buffer.specs.declared.course.Loops.{Loops}
@@ -30,51 +30,22 @@ use Rattle.buffer.specs.Course.{failedOf}
 use Rattle.machine.specs.Step.{core, stepOf}
 use Rattle.machine.specs.History.{Call, tick, act, stop}
 
--- from a place with so many loops open, commands lead to another with so many open, on the way never fewer than the least
-pub data Leads (t : List ℕ) (least from n : ℕ) : ℕ → ℕ → Type 0 where
-  at-once : Leads t least from n from n
-  behind :
-      (at m : ℕ) (k : Command) (next j : ℕ) →
-      Leads t least from n at m → commandAt t at ≡ F.Command k next → levelOf m (partOf k) ≡ At j → least ≤ j → Leads t least from n next j
-
--- where a command begins, or the text ends: so many loops are open there, and what follows closes them all
-pub record Stands (t : List ℕ) (first at open-ones : ℕ) : Type 0 where
-  pub led : Leads t 0 0 first at open-ones
-  pub steps : List Step
-  pub follows : readFrom false at (drop at t) ≡ reads steps
-  pub closes : levels (commands steps) open-ones ≡ At 0
-
--- an open loop, round a place with so many open: its g stands just before its start, and from there to the place it stays open
-pub record Round (t : List ℕ) (first start n inner m : ℕ) : Type 0 where
-  pub place : ℕ
-  pub opened : commandAt t place ≡ F.Command C.Open start
-  pub stands : Stands t first start n
-  pub within : Leads t n start n inner m
-
--- the open loops by their starts, innermost first, each round the start of the one before it;
--- round them all the text, left with no fewer open than the loop of a bare G, while that is open
-abbrev pub Rounds : List ℕ → ℕ → ℕ → ℕ → ℕ → ℕ → List ℕ → Type 0
-Rounds t first bare zero inner m starts = Leads t bare 0 first inner m
-Rounds t first bare (suc d) inner m [] = ⊥
-Rounds t first bare (suc d) inner m (s ∷ starts) = Round t first s (suc d + bare) inner m × Rounds t first bare d s (suc d + bare) starts
+-- each loop round a place has its mark: where the run goes back to, behind the loop's g
+abbrev pub Marked : List Round → List ℕ → Type 0
+Marked [] starts = Unit {0}
+Marked (r ∷ rs) [] = ⊥
+Marked (r ∷ rs) (s ∷ starts) = (s ≡ r .opening .next) × Marked rs starts
 
 abbrev pub startsOf : Loops → List ℕ
 startsOf l = l .first .start ∷ l .second .start ∷ l .third .start ∷ l .fourth .start ∷ []
 
--- a text whose loops are right, counted from 0, or from 1 if it has a bare G: as if a g stood in front
-pub record Right (t : List ℕ) (first : ℕ) : Type 0 where
-  pub some : 0 < length t
-  pub most : first ≤ 1
-  pub whole : Stands t first 0 first
-
--- a run's place in a text, and its open loops; 1 of them is bare while the loop of a bare G is open
+-- a run's place in a text that may run: the loops that the run holds open are those that lie round the place in the text's tree
 pub record OnWay (t : List ℕ) (at : ℕ) (l : Loops) : Type 0 where
-  pub first : ℕ
-  pub bare : ℕ
-  pub right : Right t first
-  pub least : bare ≤ first
-  pub here : Stands t first at (l .depth + bare)
-  pub round : Rounds t first bare (l .depth) at (l .depth + bare) (startsOf l)
+  pub may : MayRun t
+  pub rounds : List Round
+  pub place : Place t may at rounds
+  pub deep : l .depth ≡ length rounds
+  pub marked : Marked rounds (startsOf l)
 
 -- a text that reads, and has a command
 pub record Loaded (t : List ℕ) : Type 0 where
@@ -128,19 +99,24 @@ abbrev pub AllSent : List Call → Type 0
 AllSent [] = Unit {0}
 AllSent (k ∷ ks) = SentBy k × AllSent ks
 
--- the place of a run in the commands of its text: those before it, and how many loops they leave open
-pub record Before (t : List ℕ) (first at open-ones : ℕ) : Type 0 where
-  pub steps : List Step
-  pub reading : readOf (take at t) ≡ reads steps
-  pub counted : levels (commands steps) first ≡ At open-ones
+-- a G that a run takes: it closes a loop of the text's tree, the innermost that the run holds open, and the run goes back behind that loop's g
+pub record HasItsG (t : List ℕ) (s : Step) (n : ℕ) (l : Loops) : Type 0 where
+  pub may : MayRun t
+  pub round : Round
+  pub outer : List Round
+  pub of-the-tree : Inside (may .tree .nest) (loopOf round) outer
+  pub closes-it : round .closing ≡ s
+  pub passes : round .passes ≡ n
+  pub deep : l .depth ≡ length outer + 1
+  pub behind-its-g : l .first .start ≡ round .opening .next
 
--- the next command of a run: it reads; if it is a g, fewer than four loops are open; if it is a G with none open, it is a bare one
+-- the next command of a run: it reads; if it is a g, fewer than four loops are open; if it is a G, its g is open
 pub record Meets (text : List ℕ) (c : Course) : Type 0 where
   pub command : Command
   pub next : ℕ
   pub found : commandAt (take (c .len) text) (c .at) ≡ F.Command command next
   pub shallow : partOf command ≡ opens → c .loops .depth < 4
-  pub back : (n : ℕ) → partOf command ≡ closes n → c .loops .depth ≡ 0 → Right (take (c .len) text) 1
+  pub back : (n : ℕ) → partOf command ≡ closes n → HasItsG (take (c .len) text) (record { at = c .at; command = command; next = next }) n (c .loops)
 
 -- a movement that a run can't carry out: "7 is checked before 3"
 pub data Failing (k : Command) (b : Body) : ℕ → Type 0 where

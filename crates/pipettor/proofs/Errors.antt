@@ -31,17 +31,17 @@ use Rattle.motion.specs.Motion.{homeOf, targetOf, setOut, aimed, moveOf, delayO
 use Rattle.buffer.specs.declared.course.State.{State}
 use Rattle.buffer.specs.declared.course.State.the-variants.{Empty, Stored, Running, Stopped, Done}
 use Rattle.buffer.specs.declared.course.Course.{Course}
-use Rattle.buffer.specs.declared.course.Pass.{Pass}
-use Rattle.buffer.specs.declared.course.Pass.the-variants.{Again, Over}
+use Rattle.buffer.specs.declared.course.Loops.{Loops}
 use Rattle.machine.specs.declared.step.Core.{Core}
 use Rattle.buffer.specs.declared.order.Action.{Action}
 use Rattle.buffer.specs.declared.order.Action.the-variants as A
 use Rattle.buffer.specs.declared.order.Order.{Order}
 use Rattle.buffer.specs.declared.order.Order.the-variants as O
-use Rattle.buffer.specs.Course.{reached, passOf, goneOn, openedOf, closedBy, closedBare, closedOf, halted}
+use Rattle.buffer.specs.Course.{reached, goneOn, failedOf, halted}
 use Rattle.machine.specs.Step.{appliedOf, takenOf, carriedOn, activeOf, stepOf}
 use Rattle.buffer.specs.Order.{orderOf, sized, codeOf}
 use Rattle.machine.specs.Act.{haltOf, stopOf, actedOf}
+use Rattle.machine.proofs.Looping.{behind-open, behind-close}
 use Rattle.pipettor.specs.declared.acting.Got.{Got}
 use Rattle.pipettor.specs.declared.acting.Got.the-variants as G
 use Rattle.pipettor.specs.declared.acting.Task.{Task}
@@ -93,26 +93,12 @@ module _ (c : Course) (low : Low c) where
   gone-on-low (Delaying k) at = low
   gone-on-low Between at = low
 
-  opened-low : (next : ℕ) → Low (openedOf next c)
-  unfolding openedOf reached
-  opened-low next = by Low (ltb (c .loops .depth) 4) (λ h. low) (λ h. omega arith)
+  reached-low : (at : ℕ) (l : Loops) → Low (reached at l c)
+  unfolding reached
+  reached-low at l = low
 
-  closed-by-low : (p : Pass) (next : ℕ) → Low (closedBy p next c)
-  unfolding closedBy reached
-  closed-by-low (Again p) next = low
-  closed-by-low Over next = low
-
-  closed-bare-low : (p : Pass) (next : ℕ) → Low (closedBare p next c)
-  unfolding closedBare reached
-  closed-bare-low (Again p) next = low
-  closed-bare-low Over next = low
-
-  closed-low : (n next : ℕ) → Low (closedOf n next c)
-  unfolding closedOf
-  closed-low n next =
-      by Low (eqb (c .loops .depth) 0)
-      (λ h. closed-bare-low (passOf n (c .loops .bare)) next)
-      (λ h. closed-by-low (passOf n (c .loops .first .passes)) next)
+  failed-low : Low (failedOf 3 c)
+  failed-low = omega arith
 
   halted-low : Low (halted c)
   unfolding halted
@@ -123,8 +109,8 @@ module _ (c : Core) (low : Low (c .course)) where
   unfolding appliedOf
   applied-low (Goes m) next h = gone-on-low (c .course) low (m .activity) next
   applied-low (Fails code) next h = h
-  applied-low Opens next h = opened-low (c .course) low next
-  applied-low (Closes n) next h = closed-low (c .course) low n next
+  applied-low Opens next h = behind-open Low (c .course) (reached-low (c .course) low) (failed-low (c .course) low) next
+  applied-low (Closes n) next h = behind-close Low (c .course) (reached-low (c .course) low) (failed-low (c .course) low) n next
 
   taken-low : (f : Found) → Low (takenOf f c .next .course)
   unfolding takenOf reached

@@ -15,41 +15,43 @@ use Rattle.text.specs.declared.Control.the-variants.{Run, Reset}
 use Rattle.text.specs.declared.Question.the-variants.{Query, Value}
 use Rattle.text.specs.declared.Data.{Data}
 use Rattle.text.specs.declared.Data.the-variants as D
-use Rattle.text.specs.Text.{readFrom, readOf, checkOf}
+use Rattle.text.specs.Text.{Step, readFrom, readOf, checkOf}
 use Rattle.text.specs.Loops.{levelOf, levels, loopsOk}
 use Rattle.text.specs.Data.{spaceless, askedOf, body, runs, stringOf, controlOf, dataOf, receivedOf}
 
-abbrev g : Command
-g = C.Open
+-- commands by their letters; where they stand doesn't count for loops
+abbrev step : Command → Step
+step c = record { at = 0; command = c; next = 0 }
 
-abbrev G : ℕ → Command
-G n = C.Close n
+abbrev g : Step
+g = step C.Open
 
-abbrev K : Command
-K = C.Backlash 1
+abbrev G : ℕ → Step
+G n = step (C.Close n)
 
-abbrev all : (List Command → Bool) → List (List Command) → Bool
+abbrev K : Step
+K = step (C.Backlash 1)
+
+abbrev all : (List Step → Bool) → List (List Step) → Bool
 all p [] = true
 all p (t ∷ ts) = p t && all p ts
 
-abbrev right : List (List Command)
+abbrev right : List (List Step)
 right =
     []  -- no loop at all
     ∷ (g ∷ G 1 ∷ [])  -- a loop with no body, passed once
-    ∷ (G 3 ∷ [])  -- a bare G as the first command
-    ∷ (K ∷ G 3 ∷ [])
-    ∷ (g ∷ K ∷ G 3 ∷ K ∷ G 2 ∷ [])  -- a loop, and then the bare G
-    ∷ (G 2 ∷ g ∷ g ∷ g ∷ g ∷ G 1 ∷ G 1 ∷ G 1 ∷ G 1 ∷ [])  -- four loops one in another behind a bare G
-    ∷ (g ∷ g ∷ g ∷ G 1 ∷ G 1 ∷ G 1 ∷ G 2 ∷ [])  -- three before it: depth 4, that one counted
+    ∷ (g ∷ K ∷ G 3 ∷ K ∷ g ∷ G 2 ∷ [])  -- a loop, and then another
+    ∷ (g ∷ g ∷ g ∷ g ∷ G 1 ∷ G 1 ∷ G 1 ∷ G 1 ∷ [])  -- four loops one in another
     ∷ []
 
-abbrev mistaken : List (List Command)
+abbrev mistaken : List (List Step)
 mistaken =
     (g ∷ [])  -- a g left open
     ∷ (g ∷ G 2 ∷ g ∷ K ∷ [])
-    ∷ (G 2 ∷ G 2 ∷ [])  -- a second bare G
-    ∷ (g ∷ G 1 ∷ G 1 ∷ K ∷ G 1 ∷ [])
-    ∷ (g ∷ g ∷ g ∷ g ∷ G 1 ∷ G 1 ∷ G 1 ∷ G 1 ∷ G 2 ∷ [])  -- four loops one in another before a bare G
+    ∷ (G 3 ∷ [])  -- a G without an open g
+    ∷ (K ∷ G 3 ∷ [])
+    ∷ (g ∷ K ∷ G 3 ∷ K ∷ G 2 ∷ [])
+    ∷ (G 2 ∷ g ∷ G 1 ∷ [])
     ∷ (g ∷ g ∷ g ∷ g ∷ g ∷ G 1 ∷ G 1 ∷ G 1 ∷ G 1 ∷ G 1 ∷ [])  -- depth 5
     ∷ []
 

@@ -19,8 +19,9 @@ use Rattle.command.specs.Table.{letterOf, commandOf}
 use Rattle.command.specs.Command.{placed, foundIn}
 use Rattle.command.proofs.Reach.{an-operand-byte-is-no-letter, a-command-in-front}
 use Rattle.text.specs.Text.{Step, Reading, reads, wrong, thenRead, readFrom, readOf}
-use Rattle.text.specs.Loops.{loopsOk, commands, loopsIn}
+use Rattle.text.specs.Loops.{partOf, levelOf, levels, closed, loopsOk, loopsIn}
 use Rattle.text.proofs.Places.{behind-operands}
+use Rattle.text.proofs.Levels.{follow-same, levels-append}
 
 -- readings one behind the other: the first wrong place decides
 abbrev pub andRead : Reading → Reading → Reading
@@ -130,6 +131,12 @@ read-joined x at (c ∷ a) b e =
     go true = refl
     go false = then-and at (foundIn at (c ∷ a)) (readFrom true (at + 1) a) (readFrom false (at + 1 + length a) b)
 
+-- loops are counted the same wherever a text stands
+levels-moved : (k : ℕ) (steps : List Step) (d : ℕ) → levels (moved k steps) d ≡ levels steps d
+unfolding levels
+levels-moved k [] d = refl
+levels-moved k (s ∷ steps) d = follow-same (levels (moved k steps)) (levels steps) (levels-moved k steps) (levelOf d (partOf (s .command)))
+
 module _ (a b : List ℕ) (xs ys : List Step) (p : readOf a ≡ reads xs) (q : readOf b ≡ reads ys) where
   -- text plus text is the commands of the first, and then those of the second, further to the right
   pub joined-texts-read : readOf (a ++ b) ≡ reads (xs ++ moved (length a) ys)
@@ -139,13 +146,8 @@ module _ (a b : List ℕ) (xs ys : List Step) (p : readOf a ≡ reads xs) (q : r
       read-joined false 0 a b (begins b ys q) ∙ rw (z, read-moved (length a) false 0 b, p, q)
 
   -- and its loops are checked over the whole of it
-  pub joined-texts-loop : loopsIn (readOf a) (readOf b) ≡ loopsOk (commands (xs ++ moved (length a) ys))
-  joined-texts-loop = rw (p, q) (ap loopsOk (sym (both xs)))
-    where
-      later : (k : ℕ) (ys : List Step) → commands (moved k ys) ≡ commands ys
-      later k [] = refl
-      later k (s ∷ ys) = ap (_∷_ (s .command)) (later k ys)
-
-      both : (zs : List Step) → commands (zs ++ moved (length a) ys) ≡ commands zs ++ commands ys
-      both [] = later (length a) ys
-      both (s ∷ zs) = ap (_∷_ (s .command)) (both zs)
+  pub joined-texts-loop : loopsIn (readOf a) (readOf b) ≡ loopsOk (xs ++ moved (length a) ys)
+  unfolding loopsOk
+  joined-texts-loop =
+      let later = follow-same (levels ys) (levels (moved (length a) ys)) (λ d. sym (levels-moved (length a) ys d)) (levels xs 0) in
+      rw (p, q) (ap closed (levels-append xs ys 0 ∙ later ∙ sym (levels-append xs (moved (length a) ys) 0)))

@@ -5,6 +5,7 @@ pub mod Tiles
 pub mod Spaces
 pub mod Joins
 pub mod Trees
+pub mod Inside
 pub mod Examples
 pub mod Partners
 pub mod Strings

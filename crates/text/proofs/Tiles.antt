@@ -77,7 +77,7 @@ module _ (t : List ℕ) where
 
 module _ (t : List ℕ) where
   -- where steps end: forward, inside the text, and before a letter
-  forward : (from : ℕ) (steps : List Step) (to : ℕ) → Tiled t from steps to → from ≤ to
+  pub forward : (from : ℕ) (steps : List Step) (to : ℕ) → Tiled t from steps to → from ≤ to
   forward from [] to e = omega arith
   forward from (s ∷ steps) to e =
       let r = a-command-reaches-the-next-letter t from (s .command) (s .next) (e .1) in

@@ -1,3 +1,4 @@
 pub mod Text
 pub mod Data
 pub mod Loops
+pub mod Inside

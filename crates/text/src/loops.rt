@@ -3,7 +3,7 @@ use command::Command;
 use command::Found;
 ghost use mathlib.Core.Path.{_≡_};
 ghost use Rattle.text.specs.Text.{readOf};
-ghost use Rattle.text.specs.Loops.{partOf, levelOf, levelRead, closedFrom, loopsIn};
+ghost use Rattle.text.specs.Loops.{partOf, levelOf, levelRead, loopsIn};
 
 // How many loops are open, or that a command breaks the rules.
 pub enum Level {
@@ -22,12 +22,10 @@ fn level_after(open: usize, c: Command) -> Level
             }
             Level::Broken
         }
-        Command::Close(_) => {
-            if open == 0 {
-                return Level::Broken;
-            }
-            Level::At(open - 1)
-        }
+        Command::Close(_) => match open {
+            0 => Level::Broken,
+            _ => Level::At(open - 1),
+        },
         Command::Initialise(_) => Level::At(open),
         Command::Move(_, _) => Level::At(open),
         Command::Speed(_, _) => Level::At(open),
@@ -66,25 +64,15 @@ fn level_behind(t: &[u8], open: usize) -> Level
     Level::At(level)
 }
 
-// Whether two texts, one behind the other, with so many loops open at the start, leave none open.
-fn closed_from(a: &[u8], b: &[u8], open: usize) -> bool
-    ensures { λ r. ⌜ r ≡ closedFrom (readOf (now (a .entry))) (readOf (now (b .entry))) «open» ⌝ }
+// Whether the loops of a text in two parts are right.
+pub fn loops_ok(a: &[u8], b: &[u8]) -> bool
+    ensures { λ r. ⌜ r ≡ loopsIn (readOf (now (a .entry))) (readOf (now (b .entry))) ⌝ }
 {
-    match level_behind(a, open) {
+    match level_behind(a, 0) {
         Level::At(between) => match level_behind(b, between) {
             Level::At(left) => left == 0,
             Level::Broken => false,
         },
         Level::Broken => false,
     }
-}
-
-// Whether the loops of a text in two parts are right: a bare G closes a loop that is open from the text's start.
-pub fn loops_ok(a: &[u8], b: &[u8]) -> bool
-    ensures { λ r. ⌜ r ≡ loopsIn (readOf (now (a .entry))) (readOf (now (b .entry))) ⌝ }
-{
-    if closed_from(a, b, 0) {
-        return true;
-    }
-    closed_from(a, b, 1)
 }

@@ -18,9 +18,9 @@ module _ (d : ℕ) (c : Command) where
   unfolding levelOf
   too-deep e h = rw e (simp tests)
 
-  second-bare : (n : ℕ) → c ≡ C.Close n → d ≡ 0 → Broken ≡ levelOf d (partOf c)
+  without-a-g : (n : ℕ) → c ≡ C.Close n → d ≡ 0 → Broken ≡ levelOf d (partOf c)
   unfolding levelOf
-  second-bare n e h = rw (e, h)
+  without-a-g n e h = rw (e, h)
 
   closes : (n : ℕ) → c ≡ C.Close n → (d ≡ 0 → ⊥) → At (d - 1) ≡ levelOf d (partOf c)
   unfolding levelOf
@@ -30,7 +30,7 @@ module _ (d : ℕ) (c : Command) where
   unfolding levelOf
   same k e h = rw (e, h)
 
-ruleset laws = (needs, deeper, too-deep, second-bare, closes, same)
+ruleset laws = (needs, deeper, too-deep, without-a-g, closes, same)
 
 pub level-after-spec : {M : Type 1} → statement M
 level-after-spec =

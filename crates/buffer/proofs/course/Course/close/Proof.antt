@@ -10,7 +10,6 @@ close-spec =
     tie.close
     (tie.spec
     (λ c κs. search laws)
-    (λ c κs. search laws)
     (λ c. search laws)
     (λ c κs. search laws)
     (λ c κs. search laws)
