@@ -4,15 +4,18 @@ use Prim.Native.Nat.{ℕ, _+_, _-_, _≤_, _<_}
 use native.Mathlib.Omega.{arith}
 use borrow.Author.Tests.{lt-ltb, le-ltb}
 use Rattle.basics.proofs.Rules.{tests}
-use Rattle.motion.specs.declared.Activity.{Activity}
+use Rattle.command.specs.declared.refusal.Refusal.{Refusal}
+use Rattle.command.specs.declared.refusal.Refusal.the-variants as R
+use Rattle.command.specs.Numbers.{refusalNumber}
 use Rattle.motion.specs.declared.Activity.the-variants.{Between}
 use Rattle.buffer.specs.declared.course.State.{State}
 use Rattle.buffer.specs.declared.course.State.the-variants.{Running, Stopped, Done}
 use Rattle.buffer.specs.declared.course.Loops.{Loops}
 use Rattle.buffer.specs.declared.course.Course.{Course}
+use Rattle.buffer.specs.declared.course.Went.the-variants.{On, Off}
 use Rattle.buffer.specs.declared.course.Pass.{Pass}
 use Rattle.buffer.specs.declared.course.Pass.the-variants.{Again, Over}
-use Rattle.buffer.specs.Course.{courseOf, withError, anew, mark, noLoops, pushed, popped, repeated, passOf, reached, goneOn, failedOf, openedOf, closedBy, closedOf, inState, erasedOf, halted}
+use Rattle.buffer.specs.Course.{courseOf, withError, anew, mark, noLoops, pushed, popped, repeated, passOf, reached, failedOf, openedOf, closedBy, closedOf, inState, erasedOf, halted}
 
 -- passes
 module _ (n p : ℕ) where
@@ -37,27 +40,26 @@ module _ (at : ℕ) (loops : Loops) (c r : Course) where
   unfolding reached
   reach-end h e = rw (le-ltb at (c .len) h) e
 
-pub go-on-case : (k j : Activity) (at : ℕ) (c r : Course) → k ≡ j → r ≡ goneOn j at c → r ≡ goneOn k at c
-go-on-case k j at c r p e = rw p e
-
 pub no-loops : (l : Loops) (len : ℕ) (state : State) (c : Course) → l ≡ noLoops → courseOf 0 len l state (c .error) ≡ anew len state c
 no-loops l len state c e = rw e
 
-pub fails : (code : ℕ) (c d r : Course) → d ≡ erasedOf c → r ≡ withError code d → r ≡ failedOf code c
-fails code c d r p e = rw p at e
+pub fails : (why : Refusal) (code : ℕ) (c d r : Course) → code ≡ refusalNumber why → d ≡ erasedOf c → r ≡ withError code d → r ≡ failedOf why c
+fails why code c d r q p e = rw (p, q) at e
+
+-- a run that fails for its loops
+module _ (next : ℕ) (c : Course) where
+  pub too-deep : 4 ≤ c .loops .depth → Off R.Loops ≡ openedOf next c
+  unfolding openedOf
+  too-deep h = simp (le-ltb (c .loops .depth) 4 h)
+
+  pub nothing-open : (n : ℕ) → c .loops .depth ≡ 0 → Off R.Loops ≡ closedOf n next c
+  unfolding closedOf
+  nothing-open n h = simp tests
 
 module _ (next : ℕ) (c r : Course) where
-  pub opens : (l : Loops) → c .loops .depth < 4 → l ≡ pushed (mark next 0) (c .loops) → r ≡ reached next l c → r ≡ openedOf next c
+  pub opens : (l : Loops) → c .loops .depth < 4 → l ≡ pushed (mark next 0) (c .loops) → r ≡ reached next l c → On r ≡ openedOf next c
   unfolding openedOf
   opens l h p e = simp (lt-ltb (c .loops .depth) 4 h, e, p)
-
-  pub too-deep : 4 ≤ c .loops .depth → r ≡ failedOf 3 c → r ≡ openedOf next c
-  unfolding openedOf
-  too-deep h e = simp (le-ltb (c .loops .depth) 4 h, e)
-
-  pub nothing-open : (n : ℕ) → c .loops .depth ≡ 0 → r ≡ failedOf 3 c → r ≡ closedOf n next c
-  unfolding closedOf
-  nothing-open n h e = simp (tests, e)
 
   module _ (pass : Pass) where
     pub by-again : (p : ℕ) (l : Loops) → pass ≡ Again p → l ≡ repeated p (c .loops) → r ≡ reached (c .loops .first .start) l c → r ≡ closedBy pass next c
@@ -68,7 +70,7 @@ module _ (next : ℕ) (c r : Course) where
     unfolding closedBy
     by-over l k q e = rw (k, ← q) e
 
-    pub closes-by : (n : ℕ) → (c .loops .depth ≡ 0 → ⊥) → pass ≡ passOf n (c .loops .first .passes) → r ≡ closedBy pass next c → r ≡ closedOf n next c
+    pub closes-by : (n : ℕ) → (c .loops .depth ≡ 0 → ⊥) → pass ≡ passOf n (c .loops .first .passes) → r ≡ closedBy pass next c → On r ≡ closedOf n next c
     unfolding closedOf
     closes-by n h p e = simp (tests, ← p, e)
 

@@ -2,6 +2,9 @@
 use Prim.Native.Nat.{ℕ, _+_, _-_}
 use lib.Dec.{ltb, eqb}
 use Rattle.basics.specs.Choice.{if_then_else_}
+use Rattle.command.specs.declared.refusal.Refusal.{Refusal}
+use Rattle.command.specs.declared.refusal.Refusal.the-variants as R
+use Rattle.command.specs.Numbers.{refusalNumber}
 use Rattle.motion.specs.declared.Activity.{Activity}
 use Rattle.motion.specs.declared.Activity.the-variants.{Initialising, Moving, Delaying, Between}
 use Rattle.buffer.specs.declared.course.State.{State}
@@ -9,6 +12,10 @@ use Rattle.buffer.specs.declared.course.State.the-variants.{Empty, Store
 use Rattle.buffer.specs.declared.course.Mark.{Mark}
 use Rattle.buffer.specs.declared.course.Loops.{Loops}
 use Rattle.buffer.specs.declared.course.Course.{Course}
+use Rattle.buffer.specs.declared.course.Went.{Went}
+use Rattle.buffer.specs.declared.course.Went.the-variants.{On, Off}
+use Rattle.buffer.specs.declared.course.Column.{Column}
+use Rattle.buffer.specs.declared.course.Column.the-variants as K
 use Rattle.buffer.specs.declared.course.Pass.{Pass}
 use Rattle.buffer.specs.declared.course.Pass.the-variants.{Again, Over}
 
@@ -49,12 +56,9 @@ passOf n p = if eqb n 0 then Again p else if ltb (p + 1) n then Again (p + 1) el
 unfoldable pub reached : ℕ → Loops → Course → Course
 reached at loops c = courseOf at (c .len) loops (if ltb at (c .len) then Running Between else Done) (c .error)
 
--- a command goes on, or has ended, and the next stands at a place
-unfoldable pub goneOn : Activity → ℕ → Course → Course
-goneOn (Initialising t) at c = courseOf at (c .len) (c .loops) (Running (Initialising t)) (c .error)
-goneOn (Moving t) at c = courseOf at (c .len) (c .loops) (Running (Moving t)) (c .error)
-goneOn (Delaying k) at c = courseOf at (c .len) (c .loops) (Running (Delaying k)) (c .error)
-goneOn Between at c = reached at (c .loops) c
+-- a command goes on, and the next stands at a place
+abbrev pub goneOn : Activity → ℕ → Course → Course
+goneOn a at c = courseOf at (c .len) (c .loops) (Running a) (c .error)
 
 -- a text of so many characters, before its first command: erased, waiting, and run from its start
 abbrev pub anew : ℕ → State → Course → Course
@@ -70,13 +74,13 @@ abbrev pub begun : ℕ → Course → Course
 begun len c = anew len (Running Between) c
 
 -- "A refusal in a run sets the last error to its code and erases the text (Empty)"
-abbrev pub failedOf : ℕ → Course → Course
-failedOf code c = withError code (erasedOf c)
+abbrev pub failedOf : Refusal → Course → Course
+failedOf why c = withError (refusalNumber why) (erasedOf c)
 
 -- g: "each further one from the command after its g"; a fifth loop is never met (proofs/OnCourse)
-unfoldable pub openedOf : ℕ → Course → Course
+unfoldable pub openedOf : ℕ → Course → Went
 openedOf next c =
-    if ltb (c .loops .depth) 4 then reached next (pushed (mark next 0) (c .loops)) c else failedOf 3 c
+    if ltb (c .loops .depth) 4 then On (reached next (pushed (mark next 0) (c .loops)) c) else Off R.Loops
 
 -- G of the innermost open loop: back to its start, or on behind it; "a loop entered anew counts anew"
 unfoldable pub closedBy : Pass → ℕ → Course → Course
@@ -84,10 +88,24 @@ closedBy (Again p) next c = reached (c .loops .first .start) (repeated p (c .loo
 closedBy Over next c = reached next (popped (c .loops)) c
 
 -- a G without an open g is never met (proofs/OnCourse)
-unfoldable pub closedOf : ℕ → ℕ → Course → Course
+unfoldable pub closedOf : ℕ → ℕ → Course → Went
 closedOf n next c =
-    if eqb (c .loops .depth) 0 then failedOf 3 c else closedBy (passOf n (c .loops .first .passes)) next c
+    if eqb (c .loops .depth) 0 then Off R.Loops else On (closedBy (passOf n (c .loops .first .passes)) next c)
 
 -- "Then Stopped before the next command, loop counts kept, or Empty if none is left."
 unfoldable pub halted : Course → Course
 halted c = if ltb (c .at) (c .len) then inState Stopped c else erasedOf c
+
+-- a state's column in the table of strings and controls
+abbrev pub whileOf : Activity → Column
+whileOf (Initialising t) = K.Busy
+whileOf (Moving t) = K.Busy
+whileOf (Delaying k) = K.Delaying
+whileOf Between = K.Busy
+
+abbrev pub columnOf : State → Column
+columnOf Empty = K.Empty
+columnOf Stored = K.Stored
+columnOf (Running a) = whileOf a
+columnOf Stopped = K.Stopped
+columnOf Done = K.Done

@@ -1,8 +1,9 @@
 // The buffer's state and the way of a run through the text. Nothing here knows a plunger.
+use command::refusal::Refusal;
 use motion::Activity;
 ghost use mathlib.Core.Path.{_≡_};
 ghost use Prim.Native.Nat.{_<_};
-ghost use Rattle.buffer.specs.Course.{courseOf, mark, noLoops, pushed, popped, repeated, passOf, reached, goneOn, failedOf, openedOf, closedBy, closedOf, inState, withError, anew, erasedOf, waiting, begun, halted};
+ghost use Rattle.buffer.specs.Course.{courseOf, mark, noLoops, pushed, popped, repeated, passOf, reached, goneOn, failedOf, openedOf, closedBy, closedOf, inState, withError, anew, erasedOf, waiting, begun, halted, whileOf, columnOf};
 
 pub enum State {
     Empty,
@@ -10,6 +11,41 @@ pub enum State {
     Running(Activity),
     Stopped,
     Done,
+}
+
+// The columns of docs/BUFFER.md.
+pub enum Column {
+    Empty,
+    Stored,
+    Busy,
+    Delaying,
+    Stopped,
+    Done,
+}
+
+fn column_while(activity: Activity) -> Column
+    ensures { λ r. ⌜ r ≡ whileOf activity ⌝ }
+{
+    match activity {
+        Activity::Initialising(_) => Column::Busy,
+        Activity::Moving(_) => Column::Busy,
+        Activity::Delaying(_) => Column::Delaying,
+        Activity::Between => Column::Busy,
+    }
+}
+
+impl State {
+    pub fn column(self) -> Column
+        ensures { λ r. ⌜ r ≡ columnOf self ⌝ }
+    {
+        match self {
+            State::Empty => Column::Empty,
+            State::Stored => Column::Stored,
+            State::Running(activity) => column_while(activity),
+            State::Stopped => Column::Stopped,
+            State::Done => Column::Done,
+        }
+    }
 }
 
 // An open loop: where it starts, and how often it has been gone back to.
@@ -40,6 +76,12 @@ pub struct Course {
 pub enum Pass {
     Again(u32),
     Over,
+}
+
+// A run goes on, or fails.
+pub enum Went {
+    On(Course),
+    Off(Refusal),
 }
 
 // G with n passes, gone back to p times.
@@ -152,44 +194,31 @@ impl Course {
     }
 
     // A command goes on.
-    fn busy(self, at: usize, activity: Activity) -> Course
-        ensures { λ r. ⌜ r ≡ courseOf at (self .len) (self .loops) (State.Running activity) (self .error) ⌝ }
+    pub fn go_on(self, activity: Activity, at: usize) -> Course
+        ensures { λ r. ⌜ r ≡ goneOn activity at self ⌝ }
     {
         let loops = self.loops;
         self.placed(at, loops, State::Running(activity))
     }
 
-    pub fn go_on(self, activity: Activity, at: usize) -> Course
-        ensures { λ r. ⌜ r ≡ goneOn activity at self ⌝ }
-    {
-        match activity {
-            Activity::Initialising(t) => self.busy(at, Activity::Initialising(t)),
-            Activity::Moving(t) => self.busy(at, Activity::Moving(t)),
-            Activity::Delaying(k) => self.busy(at, Activity::Delaying(k)),
-            Activity::Between => {
-                let loops = self.loops;
-                self.reach(at, loops)
-            }
-        }
-    }
-
     // The run has failed: all ways in which one does pass here.
-    pub fn failed(self, code: u8) -> Course
-        ensures { λ r. ⌜ r ≡ failedOf code self ⌝ }
+    pub fn failed(self, why: Refusal) -> Course
+        ensures { λ r. ⌜ r ≡ failedOf why self ⌝ }
     {
+        let code = why.number();
         self.erase().with_error(code)
     }
 
     // g, with the next command's place.
-    pub fn open(self, next: usize) -> Course
+    pub fn open(self, next: usize) -> Went
         ensures { λ r. ⌜ r ≡ openedOf next self ⌝ }
     {
         let loops = self.loops;
         let depth = loops.depth;
         if depth < 4 {
-            return self.reach(next, loops.push(next));
+            return Went::On(self.reach(next, loops.push(next)));
         }
-        self.failed(3)
+        Went::Off(Refusal::Loops)
     }
 
     // G of the innermost open loop.
@@ -209,17 +238,17 @@ impl Course {
     }
 
     // G, with the next command's place.
-    pub fn close(self, n: u32, next: usize) -> Course
+    pub fn close(self, n: u32, next: usize) -> Went
         ensures { λ r. ⌜ r ≡ closedOf n next self ⌝ }
     {
         let loops = self.loops;
         let depth = loops.depth;
         if depth == 0 {
-            return self.failed(3);
+            return Went::Off(Refusal::Loops);
         }
         let first = loops.first;
         let passes = first.passes;
-        self.close_by(next_pass(n, passes), next)
+        Went::On(self.close_by(next_pass(n, passes), next))
     }
 
     pub fn in_state(self, state: State) -> Course

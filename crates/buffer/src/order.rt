@@ -1,15 +1,19 @@
 // Strings and controls in every state: what is asked, and whether it is refused.
+use crate::course::Column;
 use crate::course::State;
-use motion::Activity;
+use command::refusal::Refusal;
+use command::refusal::Verdict;
 use text::loops;
 ghost use mathlib.Core.Path.{_≡_};
-ghost use Prim.Native.Nat.{_+_};
+ghost use mathlib.Core.Bool.{true};
 ghost use mathlib.Core.List.{[]};
+ghost use Prim.Native.Nat.{_+_};
 ghost use lib.Dec.{ltb};
 ghost use lib.ListN.{length};
+ghost use Rattle.basics.specs.Choice.{if_then_else_};
 ghost use Rattle.text.specs.Text.{readOf};
 ghost use Rattle.text.specs.Loops.{loopsIn};
-ghost use Rattle.buffer.specs.Order.{orderOf, sized, codeOf, laidBy, storedBy};
+ghost use Rattle.buffer.specs.Order.{cellOf, orderOf, keptOf, sized, verdictOf, laidBy, storedBy};
 
 // A string without R, a string with R, R, X, C, T and !R.
 pub enum Action {
@@ -22,11 +26,14 @@ pub enum Action {
     Reset,
 }
 
-// What an action asks in a state: a refusal with its number, or what is to be done.
-pub enum Order {
-    Refuse(u8),
-    Replace(bool),
-    Join,
+// A string behind the stored text, or instead of it.
+pub enum Loading {
+    Joined,
+    Replacing,
+}
+
+// What else is done to the text that is there, and its run.
+pub enum Change {
     Begin,
     Resume,
     EndDelay,
@@ -36,113 +43,98 @@ pub enum Order {
     Reset,
 }
 
-fn store_in(state: State) -> Order
-    ensures { λ r. ⌜ r ≡ orderOf Action.Store state ⌝ }
+// What an action asks in a state: a refusal, a string to be loaded that runs or waits, or something else.
+pub enum Order {
+    Refuse(Refusal),
+    Load(Loading, bool),
+    Change(Change),
+}
+
+fn store_in(column: Column) -> Order
+    ensures { λ r. ⌜ r ≡ cellOf Action.Store column ⌝ }
 {
-    match state {
-        State::Empty => Order::Replace(false),
-        State::Stored => Order::Replace(false),
-        State::Running(_) => Order::Refuse(15),
-        State::Stopped => Order::Replace(false),
-        State::Done => Order::Replace(false),
+    match column {
+        Column::Empty => Order::Load(Loading::Replacing, false),
+        Column::Stored => Order::Load(Loading::Replacing, false),
+        Column::Busy => Order::Refuse(Refusal::Busy),
+        Column::Delaying => Order::Refuse(Refusal::Busy),
+        Column::Stopped => Order::Load(Loading::Replacing, false),
+        Column::Done => Order::Load(Loading::Replacing, false),
     }
 }
 
-fn launch_while(activity: Activity) -> Order
-    ensures { λ r. ⌜ r ≡ orderOf Action.Launch (State.Running activity) ⌝ }
+fn launch_in(column: Column) -> Order
+    ensures { λ r. ⌜ r ≡ cellOf Action.Launch column ⌝ }
 {
-    match activity {
-        Activity::Initialising(_) => Order::Refuse(15),
-        Activity::Moving(_) => Order::Refuse(15),
-        Activity::Delaying(_) => Order::Replace(true),
-        Activity::Between => Order::Refuse(15),
+    match column {
+        Column::Empty => Order::Load(Loading::Replacing, true),
+        Column::Stored => Order::Load(Loading::Joined, true),
+        Column::Busy => Order::Refuse(Refusal::Busy),
+        Column::Delaying => Order::Load(Loading::Replacing, true),
+        Column::Stopped => Order::Load(Loading::Replacing, true),
+        Column::Done => Order::Load(Loading::Replacing, true),
     }
 }
 
-fn launch_in(state: State) -> Order
-    ensures { λ r. ⌜ r ≡ orderOf Action.Launch state ⌝ }
+fn run_in(column: Column) -> Order
+    ensures { λ r. ⌜ r ≡ cellOf Action.Run column ⌝ }
 {
-    match state {
-        State::Empty => Order::Replace(true),
-        State::Stored => Order::Join,
-        State::Running(activity) => launch_while(activity),
-        State::Stopped => Order::Replace(true),
-        State::Done => Order::Replace(true),
+    match column {
+        Column::Empty => Order::Refuse(Refusal::NothingToRun),
+        Column::Stored => Order::Change(Change::Begin),
+        Column::Busy => Order::Refuse(Refusal::Busy),
+        Column::Delaying => Order::Change(Change::EndDelay),
+        Column::Stopped => Order::Change(Change::Resume),
+        Column::Done => Order::Refuse(Refusal::NothingToRun),
     }
 }
 
-fn run_while(activity: Activity) -> Order
-    ensures { λ r. ⌜ r ≡ orderOf Action.Run (State.Running activity) ⌝ }
+fn again_in(column: Column) -> Order
+    ensures { λ r. ⌜ r ≡ cellOf Action.Again column ⌝ }
 {
-    match activity {
-        Activity::Initialising(_) => Order::Refuse(15),
-        Activity::Moving(_) => Order::Refuse(15),
-        Activity::Delaying(_) => Order::EndDelay,
-        Activity::Between => Order::Refuse(15),
+    match column {
+        Column::Empty => Order::Refuse(Refusal::NothingToRun),
+        Column::Stored => Order::Refuse(Refusal::NothingToRun),
+        Column::Busy => Order::Refuse(Refusal::Busy),
+        Column::Delaying => Order::Refuse(Refusal::NothingToRun),
+        Column::Stopped => Order::Refuse(Refusal::NothingToRun),
+        Column::Done => Order::Change(Change::Repeat),
     }
 }
 
-fn run_in(state: State) -> Order
-    ensures { λ r. ⌜ r ≡ orderOf Action.Run state ⌝ }
+fn clear_in(column: Column) -> Order
+    ensures { λ r. ⌜ r ≡ cellOf Action.Clear column ⌝ }
 {
-    match state {
-        State::Empty => Order::Refuse(14),
-        State::Stored => Order::Begin,
-        State::Running(activity) => run_while(activity),
-        State::Stopped => Order::Resume,
-        State::Done => Order::Refuse(14),
-    }
-}
-
-fn again_while(activity: Activity) -> Order
-    ensures { λ r. ⌜ r ≡ orderOf Action.Again (State.Running activity) ⌝ }
-{
-    match activity {
-        Activity::Initialising(_) => Order::Refuse(15),
-        Activity::Moving(_) => Order::Refuse(15),
-        Activity::Delaying(_) => Order::Refuse(14),
-        Activity::Between => Order::Refuse(15),
-    }
-}
-
-fn again_in(state: State) -> Order
-    ensures { λ r. ⌜ r ≡ orderOf Action.Again state ⌝ }
-{
-    match state {
-        State::Empty => Order::Refuse(14),
-        State::Stored => Order::Refuse(14),
-        State::Running(activity) => again_while(activity),
-        State::Stopped => Order::Refuse(14),
-        State::Done => Order::Repeat,
-    }
-}
-
-fn clear_in(state: State) -> Order
-    ensures { λ r. ⌜ r ≡ orderOf Action.Clear state ⌝ }
-{
-    match state {
-        State::Empty => Order::Erase,
-        State::Stored => Order::Erase,
-        State::Running(_) => Order::Refuse(15),
-        State::Stopped => Order::Erase,
-        State::Done => Order::Erase,
+    match column {
+        Column::Empty => Order::Change(Change::Erase),
+        Column::Stored => Order::Change(Change::Erase),
+        Column::Busy => Order::Refuse(Refusal::Busy),
+        Column::Delaying => Order::Refuse(Refusal::Busy),
+        Column::Stopped => Order::Change(Change::Erase),
+        Column::Done => Order::Change(Change::Erase),
     }
 }
 
 impl Action {
-    // The table of actions and states.
+    // The table of docs/BUFFER.md.
+    fn cell(self, column: Column) -> Order
+        ensures { λ r. ⌜ r ≡ cellOf self column ⌝ }
+    {
+        match self {
+            Action::Store => store_in(column),
+            Action::Launch => launch_in(column),
+            Action::Run => run_in(column),
+            Action::Again => again_in(column),
+            Action::Clear => clear_in(column),
+            Action::Stop => Order::Change(Change::Halt),
+            Action::Reset => Order::Change(Change::Reset),
+        }
+    }
+
     pub fn order(self, state: State) -> Order
         ensures { λ r. ⌜ r ≡ orderOf self state ⌝ }
     {
-        match self {
-            Action::Store => store_in(state),
-            Action::Launch => launch_in(state),
-            Action::Run => run_in(state),
-            Action::Again => again_in(state),
-            Action::Clear => clear_in(state),
-            Action::Stop => Order::Halt,
-            Action::Reset => Order::Reset,
-        }
+        self.cell(state.column())
     }
 }
 
@@ -157,58 +149,73 @@ fn too_long(stored: usize, added: usize) -> bool
     room < added
 }
 
-// The text's length and then its loops: the text in two parts.
-fn joined(stored: &[u8], added: &[u8]) -> u8
-    ensures { λ r. ⌜ r ≡ sized (length (now (stored .entry)) + length (now (added .entry))) (loopsIn (readOf (now (stored .entry))) (readOf (now (added .entry)))) ⌝ }
-{
-    if too_long(stored.len(), added.len()) {
-        return 15;
+impl Loading {
+    // How much of the stored text stays in front.
+    pub fn kept(self, len: usize) -> usize
+        ensures { λ r. ⌜ r ≡ keptOf self len ⌝ }
+    {
+        match self {
+            Loading::Joined => len,
+            Loading::Replacing => 0,
+        }
     }
-    if loops::loops_ok(stored, added) {
-        return 0;
-    }
-    3
 }
 
-// A string that replaces: its length, and its loops where it is to run.
-fn replacing(run: bool, added: &[u8]) -> u8
-    ensures { λ r. ⌜ r ≡ codeOf (Order.Replace run) [] (now (added .entry)) ⌝ }
+// A text in two parts: its length, and its loops where it is to run.
+fn load(front: &[u8], added: &[u8], run: bool) -> Verdict
+    ensures { λ r. ⌜ r ≡ sized (length (now (front .entry)) + length (now (added .entry))) (if run then loopsIn (readOf (now (front .entry))) (readOf (now (added .entry))) else true) ⌝ }
 {
-    if run {
-        return joined(&added[..0], added);
+    if too_long(front.len(), added.len()) {
+        return Verdict::Refused(Refusal::TooLong);
     }
-    if too_long(0, added.len()) {
-        return 15;
+    if !run {
+        return Verdict::Fine;
     }
-    0
+    if loops::loops_ok(front, added) {
+        return Verdict::Fine;
+    }
+    Verdict::Refused(Refusal::Loops)
 }
 
 // R on stored text.
-fn beginning(stored: &[u8]) -> u8
-    ensures { λ r. ⌜ r ≡ codeOf Order.Begin (now (stored .entry)) [] ⌝ }
+fn begin(stored: &[u8]) -> Verdict
+    ensures { λ r. ⌜ r ≡ verdictOf (Order.Change Change.Begin) (now (stored .entry)) [] ⌝ }
 {
     if loops::loops_ok(stored, &stored[..0]) {
-        return 0;
+        return Verdict::Fine;
     }
-    3
+    Verdict::Refused(Refusal::Loops)
+}
+
+impl Change {
+    // Loops are looked at when a stored text begins.
+    fn verdict(self, stored: &[u8]) -> Verdict
+        ensures { λ r. ⌜ r ≡ verdictOf (Order.Change self) (now (stored .entry)) [] ⌝ }
+    {
+        match self {
+            Change::Begin => begin(stored),
+            Change::Resume => Verdict::Fine,
+            Change::EndDelay => Verdict::Fine,
+            Change::Repeat => Verdict::Fine,
+            Change::Erase => Verdict::Fine,
+            Change::Halt => Verdict::Fine,
+            Change::Reset => Verdict::Fine,
+        }
+    }
 }
 
 impl Order {
-    // 0, or 01's number for why it is refused.
-    pub fn code(self, stored: &[u8], added: &[u8]) -> u8
-        ensures { λ r. ⌜ r ≡ codeOf self (now (stored .entry)) (now (added .entry)) ⌝ }
+    // Whether it is refused, and why.
+    pub fn verdict(self, stored: &[u8], added: &[u8]) -> Verdict
+        ensures { λ r. ⌜ r ≡ verdictOf self (now (stored .entry)) (now (added .entry)) ⌝ }
     {
         match self {
-            Order::Refuse(code) => code,
-            Order::Replace(run) => replacing(run, added),
-            Order::Join => joined(stored, added),
-            Order::Begin => beginning(stored),
-            Order::Resume => 0,
-            Order::EndDelay => 0,
-            Order::Repeat => 0,
-            Order::Erase => 0,
-            Order::Halt => 0,
-            Order::Reset => 0,
+            Order::Refuse(why) => Verdict::Refused(why),
+            Order::Load(loading, run) => {
+                let kept = loading.kept(stored.len());
+                load(&stored[..kept], added, run)
+            }
+            Order::Change(change) => change.verdict(stored),
         }
     }
 }
@@ -219,27 +226,20 @@ fn lay_by(order: Order, len: usize, added: &[u8], text: &mut [u8])
 {
     match order {
         Order::Refuse(_) => {}
-        Order::Replace(_) => {
-            basics::lay(added, text, 0);
+        Order::Load(loading, _) => {
+            let at = loading.kept(len);
+            basics::lay(added, text, at);
         }
-        Order::Join => {
-            basics::lay(added, text, len);
-        }
-        Order::Begin => {}
-        Order::Resume => {}
-        Order::EndDelay => {}
-        Order::Repeat => {}
-        Order::Erase => {}
-        Order::Halt => {}
-        Order::Reset => {}
+        Order::Change(_) => {}
     }
 }
 
-// The text after an order that was accepted (code 0) or refused.
-pub fn store(order: Order, code: u8, len: usize, added: &[u8], text: &mut [u8])
-    ensures { λ _. ⌜ now (text .exit) ≡ storedBy order code len (now (added .entry)) (now (text .entry)) ⌝ }
+// The text after an order that was accepted or refused.
+pub fn store(order: Order, verdict: Verdict, len: usize, added: &[u8], text: &mut [u8])
+    ensures { λ _. ⌜ now (text .exit) ≡ storedBy order verdict len (now (added .entry)) (now (text .entry)) ⌝ }
 {
-    if code == 0 {
-        lay_by(order, len, added, text);
+    match verdict {
+        Verdict::Fine => lay_by(order, len, added, text),
+        Verdict::Refused(_) => {}
     }
 }

@@ -3,3 +3,4 @@ pub mod Within
 pub mod Reach
 pub mod Table
 pub mod Allowed
+pub mod Numbers

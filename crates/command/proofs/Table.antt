@@ -19,7 +19,9 @@ use Rattle.command.specs.declared.Command.the-variants.{Initialise, Spee
 use Rattle.command.specs.declared.Found.{Found}
 use Rattle.command.specs.declared.Found.the-variants as F
 use Rattle.command.specs.Table.{moveBy, letterOf, allowed, takenOf, wholeOf, nanolitresOf, speedOf, inTenths, flowOf, made, both, inUnit, volumeOf, pacedOf, slopesOf, compensationOf, commandOf}
-use Rattle.command.specs.Command.{refusalNumber, placed, foundIn, commandAt}
+use Rattle.command.specs.declared.refusal.Refusal.the-variants as R
+use Rattle.command.specs.Numbers.{refusalNumber}
+use Rattle.command.specs.Command.{placed, foundIn, commandAt}
 
 -- a text is wholly a command, or is refused with 01's number
 infix 68 _reads_ _refused_
@@ -46,7 +48,7 @@ pub data Answer : Type 0 where
 
 abbrev pub answer : Found → Answer
 answer (F.Command k next) = command k next
-answer (F.Refused r) = refusal (refusalNumber r)
+answer (F.Refused m) = refusal (refusalNumber (R.Misread m))
 answer F.End = nothing
 
 abbrev pub answersOf : List Row → List Answer

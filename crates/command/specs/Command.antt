@@ -10,14 +10,8 @@ use Rattle.command.specs.declared.Formed.{Formed}
 use Rattle.command.specs.declared.Formed.the-variants.{Made, NoLetter, WrongOperand}
 use Rattle.command.specs.declared.Found.{Found}
 use Rattle.command.specs.declared.Found.the-variants as F
-use Rattle.command.specs.declared.Refusal.{Refusal}
-use Rattle.command.specs.declared.Refusal.the-variants.{Letter, Operand}
+use Rattle.command.specs.declared.refusal.Misread.the-variants.{Letter, Operand}
 use Rattle.command.specs.Table.{letterOf, commandOf}
-
--- 01, "Numbers that come back": the letter is not allowed here, or its operand is wrong
-abbrev pub refusalNumber : Refusal → ℕ
-refusalNumber (Letter place) = 2
-refusalNumber (Operand place) = 3
 
 -- a letter at a place with an operand text of n bytes behind it
 unfoldable pub placed : ℕ → ℕ → Formed → Found

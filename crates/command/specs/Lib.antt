@@ -1,3 +1,4 @@
 pub mod Table
 pub mod Command
+pub mod Numbers
 pub mod Allowed

@@ -1,6 +1,9 @@
 // Commands: what stands at a place of a text, by 01's command table.
+pub mod refusal;
+
 use operand::Number;
 use operand::Pair;
+use refusal::Misread;
 use settings::Pace;
 use settings::Quantity;
 use settings::Range;
@@ -10,7 +13,7 @@ use settings::units;
 ghost use mathlib.Core.Path.{_≡_};
 ghost use Prim.Native.Nat.{_+_, _-_, _^_, _≤_};
 ghost use Rattle.command.specs.Table.{letterOf, rangedOf, allowed, takenOf, wholeOf, nanolitresOf, speedOf, inTenths, flowOf, made, moveBy, volumeOf, pacedOf, slopesOf, compensationOf, commandOf};
-ghost use Rattle.command.specs.Command.{refusalNumber, placed, commandAt};
+ghost use Rattle.command.specs.Command.{placed, commandAt};
 
 // A, P and D: to a place, up from here, down from here.
 pub enum Way {
@@ -39,29 +42,10 @@ pub enum Command {
     Close(u32),
 }
 
-pub enum Refusal {
-    // A letter that is not allowed here, at its place.
-    Letter(usize),
-    // A wrong operand text, where it begins.
-    Operand(usize),
-}
-
-impl Refusal {
-    // 01's number.
-    pub fn number(self) -> u8
-        ensures { λ r. ⌜ r ≡ refusalNumber self ⌝ }
-    {
-        match self {
-            Refusal::Letter(_) => 2,
-            Refusal::Operand(_) => 3,
-        }
-    }
-}
-
 // A command and the place after it, a refusal, or nothing where the text ends.
 pub enum Found {
     Command(Command, usize),
-    Refused(Refusal),
+    Refused(Misread),
     End,
 }
 
@@ -374,8 +358,8 @@ fn place(at: usize, from: usize, next: usize, formed: Formed) -> Found
 {
     match formed {
         Formed::Made(c) => Found::Command(c, next),
-        Formed::NoLetter => Found::Refused(Refusal::Letter(at)),
-        Formed::WrongOperand => Found::Refused(Refusal::Operand(from)),
+        Formed::NoLetter => Found::Refused(Misread::Letter(at)),
+        Formed::WrongOperand => Found::Refused(Misread::Operand(from)),
     }
 }
 

@@ -1,8 +1,8 @@
 // Reads texts from standard input, a line to a text, and says of each what stands at its front: a command, in words, with the place behind it, or a refusal with its number and its place.
 use command::Command;
 use command::Found;
-use command::Refusal;
 use command::Way;
+use command::refusal::Misread;
 use settings::Pace;
 use settings::Volume;
 
@@ -87,14 +87,14 @@ fn command(c: Command) {
     }
 }
 
-fn at(r: Refusal) -> usize {
+fn at(r: Misread) -> usize {
     match r {
-        Refusal::Letter(place) => place,
-        Refusal::Operand(place) => place,
+        Misread::Letter(place) => place,
+        Misread::Operand(place) => place,
     }
 }
 
-fn refused(r: Refusal) {
+fn refused(r: Misread) {
     counted(b"refused ", r.number() as u32, b" at ");
     place(at(r));
 }

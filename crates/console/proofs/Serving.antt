@@ -10,6 +10,7 @@ use Rattle.desk.specs.declared.Asked.{Asked}
 use Rattle.desk.specs.declared.Asked.the-variants.{Send, Ticks, Wrong}
 use Rattle.desk.specs.Desk.{askedOf}
 use Rattle.pipettor.specs.declared.Controller.{Controller}
+use Rattle.pipettor.specs.declared.Ticked.{Ticked}
 use Rattle.pipettor.specs.declared.Reply.{Reply}
 use Rattle.pipettor.specs.declared.Listened.{Listened}
 use Rattle.pipettor.specs.Byte.{After, after, byteOf}
@@ -42,17 +43,17 @@ module _ (k : Controller) (r : Reply) (before behind out after-it : List ℕ) (n
     prints = rw (← answered) p;
   }
 
-module _ (out after-it : List ℕ) (k r : Controller) (n : ℕ) where
+module _ (out after-it : List ℕ) (k : Controller) (n : ℕ) where
   pub sent :
-      (a : Controller) (text : List ℕ) → Left (fedOf text k) a → Replies (endedOf a .reply .controller) (answerText a) out r n after-it →
+      (r a : Controller) (text : List ℕ) → Left (fedOf text k) a → Replies (endedOf a .reply .controller) (answerText a) out r n after-it →
       Replies (endedOf (fedOf text k) .reply .controller) (answerText (fedOf text k)) out r n after-it
-  sent a text f e = rw (f .is) at e
+  sent r a text f e = rw (f .is) at e
 
   pub waited :
-      (t : ℕ) → Held k → r ≡ advancedOf t k → Prints (placeOf (r .device .core .body .plunger) (r .device .core .body .exact)) out n after-it →
-      Replies (advancedOf t k) (placeText (advancedOf t k)) out r n after-it
+      (r : Ticked) (t : ℕ) → Held k → r ≡ advancedOf t k → Prints (placeOf (r .controller .device .core .body .plunger) (r .controller .device .core .body .exact)) out n after-it →
+      Replies (advancedOf t k .controller) (placeText (advancedOf t k .controller)) out (r .controller) n after-it
   unfolding placeText
-  waited t h e p = record { left = record { is = e; held = advance-kept k r t h e }; prints = rw (← e) p }
+  waited r t h e p = record { left = record { is = ap (λ (x : Ticked). x .controller) e; held = advance-kept k r t h e }; prints = rw (← e) p }
 
 -- by what a line asks
 module _ (line out after-it : List ℕ) (k : Controller) (n : ℕ) (a : Asked) (e : a ≡ askedOf line) where
@@ -73,6 +74,6 @@ module _ (line out after-it : List ℕ) (k : Controller) (n : ℕ) (a : Asked) (
     unfolding servedOf didOf replyOf textFor
     frame q l = let s : askedOf line ≡ Send = sym e ∙ q in rw s (rw (tail-all 2 line) at l)
 
-    pub ticks : (t : ℕ) → a ≡ Ticks t → Replies (advancedOf t k) (placeText (advancedOf t k)) out r n after-it → Replies (servedOf line k) (replyOf line k) out r n after-it
+    pub ticks : (t : ℕ) → a ≡ Ticks t → Replies (advancedOf t k .controller) (placeText (advancedOf t k .controller)) out r n after-it → Replies (servedOf line k) (replyOf line k) out r n after-it
     unfolding servedOf didOf replyOf textFor
     ticks t q l = let s : askedOf line ≡ Ticks t = sym e ∙ q in rw s l

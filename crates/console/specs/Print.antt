@@ -38,7 +38,7 @@ placeText k = let b = k .device .core .body in placeOf (b .plunger) (b .exact)
 
 unfoldable pub textFor : Asked → List ℕ → Controller → List ℕ
 textFor Send line k = answerText (fedOf (drop 2 line) k)
-textFor (Ticks n) line k = placeText (advancedOf n k)
+textFor (Ticks n) line k = placeText (advancedOf n k .controller)
 textFor Wrong line k = questionMark
 
 -- what a line prints, at this controller

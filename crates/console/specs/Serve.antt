@@ -23,7 +23,7 @@ endedOf k = heardOf k cr (replicate 32 0) .next
 
 unfoldable pub didOf : Asked → List ℕ → Controller → Controller
 didOf Send line k = endedOf (fedOf (drop 2 line) k) .reply .controller
-didOf (Ticks n) line k = advancedOf n k
+didOf (Ticks n) line k = advancedOf n k .controller
 didOf Wrong line k = k
 
 unfoldable pub servedOf : List ℕ → Controller → Controller

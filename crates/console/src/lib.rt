@@ -71,9 +71,10 @@ fn send(c: Controller, text: &[u8], out: &mut [u8]) -> Replied
 fn wait(c: Controller, n: u32, out: &mut [u8]) -> Replied
     requires { ⌜ Held c ⌝ }
     requires { ⌜ length (now out) ≡ 32 ⌝ }
-    ensures { λ r. ⌜ Replies (advancedOf n c) (placeText (advancedOf n c)) (now (out .entry)) (r .controller) (r .n) (now (out .exit)) ⌝ }
+    ensures { λ r. ⌜ Replies (advancedOf n c .controller) (placeText (advancedOf n c .controller)) (now (out .entry)) (r .controller) (r .n) (now (out .exit)) ⌝ }
 {
-    let controller = c.advance(n);
+    let ticked = c.advance(n);
+    let controller = ticked.controller;
     let device = controller.device;
     let core = device.core;
     let body = core.body;

@@ -8,7 +8,7 @@ use Rattle.pipettor.specs.Valid.{Valid}
 use Rattle.pipettor.specs.Byte.{After}
 use Rattle.pipettor.specs.Controller.{madeOf}
 use Rattle.pipettor.proofs.Keeps.{Sized, made-is-valid}
-use Rattle.demands.specs.Calls.{Call, byte, listen, tick, stop, advance, run, said, callOf, answerOf, afterOf, answersOf, after, answers}
+use Rattle.demands.specs.Calls.{lent, Call, byte, listen, tick, stop, advance, run, said, callOf, answerOf, afterOf, answersOf, after, answers}
 use Rattle.demands.specs.Contracts.{Program, Made, makes, Meets, TakesAll, leftBy, answeredBy}
 use Rattle.demands.specs.Frames.{frameAfter}
 use Rattle.demands.specs.Demands.{Agrees, Agreement}
@@ -21,8 +21,8 @@ use Rattle.demands.proofs.Sound.{call-keeps-valid, call-keeps-sized, ma
 module _ (p : Program) (m : Meets p) where
   call-agrees : (c : Call) (k : Controller) → p .Holds k → p .Takes c → Valid k → makes p c k ≡ record { controller = callOf c k .next; answer = answerOf c k }
   unfolding makes callOf answerOf
-  call-agrees (byte b buf) k h t v =
-      ap (λ (r : After). record { controller = r .reply .controller; answer = said (r .reply .said) (r .buffer) }) (m .byte k b buf h t v)
+  call-agrees (byte b l) k h t v =
+      ap (λ (r : After). record { controller = r .reply .controller; answer = said (r .reply .said) (lent (r .buffer)) }) (m .byte k b l h t v)
   call-agrees (listen bytes) k h t v = rw (m .listen k bytes h t)
   call-agrees tick k h t v = rw (m .tick k h t v)
   call-agrees stop k h t v = rw (m .stop k h t)
@@ -35,7 +35,7 @@ module _ (p : Program) (m : Meets p) where
   calls-agree (c ∷ cs) k h t s v =
       let e = call-agrees c k h (t .0) v in
       let same : makes p c k .controller ≡ callOf c k .next = ap (λ (r : Made). r .controller) e in
-      let (left, back) = calls-agree cs (callOf c k .next) (subst (p .Holds) same (m .held c k h (t .0) v)) (t .1) (call-keeps-sized c k s) (call-keeps-valid c k s v) in
+      let (left, back) = calls-agree cs (callOf c k .next) (subst (p .Holds) same (m .held c k h (t .0) v)) (t .1) (call-keeps-sized c k s v) (call-keeps-valid c k s v) in
       (rw same left, rw e (ap (_∷_ (answerOf c k)) back))
 
 every-program-agrees : (p : Program) → Meets p → (a : Address) (calls : List Call) → TakesAll p calls → Agrees p a calls

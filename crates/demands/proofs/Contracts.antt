@@ -8,6 +8,7 @@ use Rattle.pipettor.specs.declared.address.Address.{Address}
 use Rattle.pipettor.specs.declared.Controller.{Controller}
 use Rattle.pipettor.specs.declared.Reply.{Reply}
 use Rattle.pipettor.specs.declared.Listened.{Listened}
+use Rattle.pipettor.specs.declared.Ticked.{Ticked}
 use Rattle.pipettor.specs.declared.Ran.{Ran}
 use Rattle.pipettor.specs.Valid.{Valid}
 use Rattle.pipettor.proofs.Controller.fresh.Reads as Fresh
@@ -32,13 +33,13 @@ module _ (κs : Lfts 0) where
   fresh-says a r = record { asked-is = refl; ensured-is = refl }
 
   module _ (k : Controller) where
-    pub tick-says : (r : Controller) → Says (Tick.Asked κs (k, tt)) (Valid k) (Tick.Learnt κs (k, tt) r (k, tt)) (TickEnsures k r)
+    pub tick-says : (r : Ticked) → Says (Tick.Asked κs (k, tt)) (Valid k) (Tick.Learnt κs (k, tt) r (k, tt)) (TickEnsures k r)
     tick-says r = record { asked-is = refl; ensured-is = refl }
 
     pub stop-says : (r : Controller) → Says (Stop.Asked κs (k, tt)) (Unit {0}) (Stop.Learnt κs (k, tt) r (k, tt)) (StopEnsures k r)
     stop-says r = record { asked-is = refl; ensured-is = refl }
 
-    pub advance-says : (n : ℕ) (r : Controller) → Says (Advance.Asked κs (k, (n, tt))) (Valid k) (Advance.Learnt κs (k, (n, tt)) r (k, (n, tt))) (AdvanceEnsures k n r)
+    pub advance-says : (n : ℕ) (r : Ticked) → Says (Advance.Asked κs (k, (n, tt))) (Valid k) (Advance.Learnt κs (k, (n, tt)) r (k, (n, tt))) (AdvanceEnsures k n r)
     advance-says n r = record { asked-is = refl; ensured-is = refl }
 
     pub run-says : (n : ℕ) (r : Ran) → Says (Run.Asked κs (k, (n, tt))) (Valid k) (Run.Learnt κs (k, (n, tt)) r (k, (n, tt))) (RunEnsures k n r)
@@ -47,7 +48,7 @@ module _ (κs : Lfts 0) where
 -- the buffer as it was lent, and as it is left
 pub byte-says :
     (κs : Lfts 1) (k : Controller) (b : ℕ) (lent left : RefT (List ℕ)) (r : Reply) →
-    Says (Byte.Asked κs (k, (b, (lent, tt)))) (Valid k) (Byte.Learnt κs (k, (b, (lent, tt))) r (k, (b, (left, tt)))) (ByteEnsures k b (now lent) r (now left))
+    Says (Byte.Asked κs (k, (b, (lent, tt)))) (Valid k) (Byte.Learnt κs (k, (b, (lent, tt))) r (k, (b, (left, tt)))) (ByteEnsures k b (record { buffer = now lent }) r (record { buffer = now left }))
 byte-says κs k b lent left r = record { asked-is = refl; ensured-is = refl }
 
 -- the bytes as they are lent
@@ -63,7 +64,7 @@ defined =
       Holds = λ k. Unit {0};
       Takes = λ c. Unit {0};
       fresh = λ a. madeOf a .next;
-      byte = λ k b buf. byteOf k b buf .next;
+      byte = λ k b l. (let r = byteOf k b (l .buffer) .next in record { reply = r .reply; left = record { buffer = r .buffer } });
       listen = listenedOf;
       tick = λ k. tickedOf k .next;
       stop = λ k. stoppedOf k .next;
@@ -75,7 +76,7 @@ pub the-contracts-can-be-met : Meets defined
 the-contracts-can-be-met =
     record {
       fresh = λ a. refl;
-      byte = λ k b buf h t v. refl;
+      byte = λ k b l h t v. refl;
       listen = λ k bytes h t. refl;
       tick = λ k h t v. refl;
       stop = λ k h t. refl;

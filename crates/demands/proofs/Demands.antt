@@ -14,6 +14,7 @@ use Rattle.basics.proofs.Over.{length-over}
 use Rattle.line.specs.Answer.{statusOf, answerOf}
 use Rattle.line.proofs.Answers.{answer-fits}
 use Rattle.motion.specs.Events.{Turn}
+use Rattle.machine.specs.Step.{around, fine}
 use Rattle.machine.specs.Run.{usedOf}
 use Rattle.machine.specs.Device.{tickOf, advanceOf, ranOf}
 use Rattle.machine.specs.History.{IsSum}
@@ -27,7 +28,7 @@ use Rattle.pipettor.specs.declared.acting.Outcome.{Outcome}
 use Rattle.pipettor.specs.declared.acting.Outcome.the-variants.{Mute, Tell}
 use Rattle.pipettor.specs.declared.Controller.{Controller}
 use Rattle.pipettor.specs.Address.{letterOf, addressOf}
-use Rattle.pipettor.specs.Byte.{After, saidOf, writtenOf, heardOf, byteOf}
+use Rattle.pipettor.specs.Byte.{After, saidOf, writtenOf, dealtOf, heardOf, byteOf}
 use Rattle.pipettor.specs.Controller.{tickedOf, advancedOf, runOf}
 use Rattle.frames.proofs.Calls.{a-short-buffer-is-s1, s1-changes-nothing, an-address-outside-1-to-9-is-s2}
 use Rattle.demands.specs.Calls.{Call, after}
@@ -50,23 +51,23 @@ written-by (Tell report code) ready buf long =
     (short, length-over answer 0 buf (omega arith), behind-over answer buf)
 
 a-byte-writes : (k : Controller) (b : ℕ) (buf : List ℕ) → (let r = byteOf k b buf .next in Written (r .reply .said) buf (r .buffer))
-unfolding byteOf heardOf
+unfolding byteOf heardOf dealtOf
 a-byte-writes k b buf =
     by (λ (t : Turn After). Written (t .next .reply .said) buf (t .next .buffer)) (ltb (length buf) 32)
     (λ h. refl)
     (λ h. written-by _ _ buf (ltb-false (length buf) 32 h))
 
 module _ (k : Controller) (n : ℕ) where
-  a-run-is-counted : n ≤ 60000 → Counted n k (usedOf n (k .device .text) (k .device .core))
+  a-run-is-counted : n ≤ 60000 → Counted n k (usedOf n (around (k .device .text)) (fine (k .device .core)))
   unfolding runOf ranOf advancedOf advanceOf
   a-run-is-counted h =
-      let text = k .device .text in
-      let c = k .device .core in
+      let w = around (k .device .text) in
+      let s = fine (k .device .core) in
       record {
         run = rw (le-ltb 60000 n h);
-        within = count-within n text c;
-        busy-before = λ i l. not-ready-before n i text c l;
-        ready-after = ready-after n text c;
+        within = count-within n w s;
+        busy-before = λ i l. not-ready-before n i w s l;
+        ready-after = ready-after n w s;
       }
 
 every-controller-answers : (a : Address) (calls : List Call) → Answers (after a calls)
@@ -81,7 +82,7 @@ every-controller-answers a calls =
       a-byte-writes-its-answer-only = a-byte-writes k;
       a-frame-is-treated-by-the-table = λ ds buf good long. a-frame-is-treated-by-the-table k (sound .sized .frame) buf long ds good;
       a-long-run-is-S3 = λ n h. rw (lt-ltb 60000 n h);
-      a-run-counts-its-ticks = λ n h. (usedOf n (k .device .text) (k .device .core), a-run-is-counted k n h);
+      a-run-counts-its-ticks = λ n h. (usedOf n (around (k .device .text)) (fine (k .device .core)), a-run-is-counted k n h);
       a-run-meets-a-command = λ is. a-run-meets-a-command (k .device .text) (k .device .core .course) is (sound .on-course);
       a-run-fails-by-7-or-3 = λ doing is empty. a-run-fails-by-7-or-3-only (k .device .text) (k .device .core) doing is (sound .on-course) empty;
     }

@@ -11,7 +11,9 @@ use lib.Seq.{length-take-le, take-append-le}
 use Rattle.basics.specs.Choice.{if_then_else_}
 use Rattle.basics.specs.Lay.{over}
 use Rattle.basics.proofs.Choice.{by}
-use Rattle.command.specs.Command.{refusalNumber}
+use Rattle.command.specs.declared.refusal.Refusal.{Refusal}
+use Rattle.command.specs.declared.refusal.Refusal.the-variants as R
+use Rattle.command.specs.Numbers.{refusalNumber}
 use Rattle.text.specs.declared.Data.{Data}
 use Rattle.text.specs.declared.Data.the-variants as D
 use Rattle.text.specs.declared.Control.{Control}
@@ -24,14 +26,11 @@ use Rattle.line.specs.declared.Deed.{Deed}
 use Rattle.line.specs.declared.Deed.the-variants as W
 use Rattle.line.specs.Wire.{hearOf, keepOf}
 use Rattle.motion.specs.Events.{Turn, quiet}
-use Rattle.machine.specs.declared.step.Core.{Core}
-use Rattle.buffer.specs.declared.order.Action.{Action}
-use Rattle.buffer.specs.declared.order.Order.the-variants as O
 use Rattle.machine.specs.declared.Device.{Device}
 use Rattle.machine.specs.declared.Ran.{Ran}
 use Rattle.machine.specs.Run.{usedOf}
-use Rattle.buffer.specs.Order.{orderOf, codeOf, laidBy, storedBy}
-use Rattle.machine.specs.Act.{coreError, doneOf, actedOf, actOf, textOf}
+use Rattle.machine.specs.Act.{coreError}
+use Rattle.machine.specs.Step.{around, fine}
 use Rattle.machine.specs.Device.{device, advanceOf, ranOf}
 use Rattle.machine.specs.History as Machine
 use Rattle.machine.specs.OnCourse.{Loaded, SentBy}
@@ -39,7 +38,7 @@ use Rattle.pipettor.specs.declared.acting.Got.{Got}
 use Rattle.pipettor.specs.declared.acting.Got.the-variants as G
 use Rattle.pipettor.specs.declared.Controller.{Controller}
 use Rattle.pipettor.specs.Address.{letterOf}
-use Rattle.pipettor.specs.Byte.{After, fetchedOf, squeezedIn, gotOf, squeezedOf, actionOf, stringAction, taskOf, sizeOf, taskCode, taskDone, taskText, heardOf, byteOf}
+use Rattle.pipettor.specs.Byte.{After, fetchedOf, squeezedIn, gotOf, squeezedOf, actionOf, stringAction, taskOf, sizeOf, performedOf, dealtOf, heardOf, byteOf}
 use Rattle.pipettor.specs.Listening.{listenedOf}
 use Rattle.pipettor.specs.Controller.{tickedOf, stoppedOf, advancedOf, runOf}
 use Rattle.demands.specs.Calls as Calls
@@ -48,9 +47,9 @@ use Rattle.demands.specs.Calls.{Call, ticksEvents, ticksUsed, callOf}
 -- what a call does to a device
 pub data Does (d : Device) : Turn Device → Type 0 where
   none : Does d (quiet d)
-  new-error : (code : ℕ) → Does d (quiet (device (d .text) (coreError code (d .core))))
+  new-error : (why : Refusal) → Does d (quiet (device (d .text) (coreError (refusalNumber why) (d .core))))
   call : (k : Machine.Call) → SentBy k → Does d (Machine.callOf k d)
-  ticks : (n : ℕ) → Does d (record { next = advanceOf n d; events = ticksEvents n d })
+  ticks : (n : ℕ) → Does d (record { next = advanceOf n d .device; events = ticksEvents n d })
 
 -- a text that stands in front of data reads, and isn't empty
 reading-of : (t : List ℕ) (r : Reading) → readOf t ≡ r → verdict r ≡ Fine → (steps : List Step) × (readOf t ≡ reads steps)
@@ -91,18 +90,18 @@ abbrev Brings : Got → List ℕ → Type 0
 Brings G.Nothing added = Unit {0}
 Brings (G.Data (D.Report q)) added = Unit {0}
 Brings (G.Data D.WrongReport) added = Unit {0}
-Brings (G.Data (D.Control c)) added = added ≡ []
-Brings (G.Data (D.Text n run)) added = Loaded added × (length added ≡ n)
+Brings (G.Data (D.Control c)) added = Unit {0}
+Brings (G.Data (D.Text n run)) added = Loaded added
 Brings (G.Data (D.Wrong r)) added = Unit {0}
 Brings (G.Data D.TooLong) added = Unit {0}
 
 data-brings : (t frame : List ℕ) (d : Data) → dataOf t ≡ d → Brings (G.Data d) (take (sizeOf (G.Data d)) (over t 0 frame))
 data-brings t frame (D.Report q) e = tt
 data-brings t frame D.WrongReport e = tt
-data-brings t frame (D.Control c) e = refl
+data-brings t frame (D.Control c) e = tt
 data-brings t frame (D.Text n run) e =
     let w = a-text-stands-in-front n run t e in
-    rw (front-of-squeezed n t frame (w .short)) (a-text-in-front-is-loaded n run t e, length-take-le n t (w .short))
+    rw (front-of-squeezed n t frame (w .short)) (a-text-in-front-is-loaded n run t e)
 data-brings t frame (D.Wrong r) e = tt
 data-brings t frame D.TooLong e = tt
 
@@ -126,32 +125,7 @@ got-brings ours (W.Frame a n) frame = go (eqb a ours) (ltb 320 n)
 -- what a frame does to a device, by what it brings
 module _ (d : Device) where
   abbrev outcome : Got → List ℕ → Turn Device
-  outcome g added =
-      let c = d .core in
-      let task = taskOf g (c .course .state) in
-      let code = taskCode task (take (c .course .len) (d .text)) added in
-      let turn = taskDone task code (sizeOf g) c in
-      record { next = device (taskText task code (c .course .len) added (d .text)) (turn .next); events = turn .events }
-
-  refuses : (code n : ℕ) (added : List ℕ) → (let o = O.Refuse code in let t = actedOf o code n (d .core) in Does d (record { next = device (storedBy o code (d .core .course .len) added (d .text)) (t .next); events = t .events }))
-  unfolding actedOf storedBy doneOf laidBy
-  refuses code n added = go (eqb code 0)
-    where
-      to : Bool → Turn Core
-      to x = if x then quiet (coreError 0 (d .core)) else quiet (coreError code (d .core))
-
-      go : (x : Bool) → Does d (record { next = device (if x then d .text else d .text) (to x .next); events = to x .events })
-      go true = new-error 0
-      go false = new-error code
-
-  acts : (a : Action) (added : List ℕ) (n : ℕ) → length added ≡ n → SentBy (Machine.act a added) →
-      (let c = d .core in
-      let o = orderOf a (c .course .state) in
-      let code = codeOf o (take (c .course .len) (d .text)) added in
-      let t = actedOf o code n c in
-      Does d (record { next = device (storedBy o code (c .course .len) added (d .text)) (t .next); events = t .events }))
-  unfolding Machine.callOf actOf textOf
-  acts a added n l sent = rw (← l) (call (Machine.act a added) sent)
+  outcome g added = let t = performedOf (taskOf g) added d in record { next = t .next .device; events = t .events }
 
   control-sent : (c : Control) (added : List ℕ) → SentBy (Machine.act (actionOf c) added)
   control-sent Run added = tt
@@ -165,27 +139,27 @@ module _ (d : Device) where
   string-sent false added l = l
 
   frame-does : (g : Got) (added : List ℕ) → Brings g added → Does d (outcome g added)
-  unfolding taskOf taskCode taskDone taskText codeOf
+  unfolding taskOf performedOf Machine.callOf
   frame-does G.Nothing added b = none
   frame-does (G.Data (D.Report q)) added b = none
   frame-does (G.Data D.WrongReport) added b = none
-  frame-does (G.Data (D.Control c)) added b = acts (actionOf c) added 0 (rw b) (control-sent c added)
-  frame-does (G.Data (D.Text n run)) added b = acts (stringAction run) added n (b .1) (string-sent run added (b .0))
-  frame-does (G.Data (D.Wrong r)) added b = refuses (refusalNumber r) 0 added
-  frame-does (G.Data D.TooLong) added b = refuses 15 0 added
+  frame-does (G.Data (D.Control c)) added b = call (Machine.act (actionOf c) added) (control-sent c added)
+  frame-does (G.Data (D.Text n run)) added b = call (Machine.act (stringAction run) added) (string-sent run added b)
+  frame-does (G.Data (D.Wrong m)) added b = new-error (R.Misread m)
+  frame-does (G.Data D.TooLong) added b = new-error R.TooLong
 
 -- every call
 abbrev onDevice : Turn Controller → Turn Device
 onDevice t = record { next = t .next .device; events = t .events }
 
 pub every-call-does : (c : Call) (k : Controller) → Does (k .device) (onDevice (callOf c k))
-unfolding callOf byteOf heardOf listenedOf tickedOf stoppedOf advancedOf runOf ranOf ticksEvents Machine.callOf Machine.eventsOf
-every-call-does (Calls.byte b buf) k =
+unfolding callOf byteOf heardOf dealtOf listenedOf tickedOf stoppedOf advancedOf runOf ranOf ticksEvents Machine.callOf Machine.eventsOf
+every-call-does (Calls.byte b l) k =
     let deed = hearOf (k .line) b .deed in
     let frame = keepOf (k .frame) deed b in
     let ours = letterOf (k .address) in
     let g = gotOf ours deed frame in
-    by (λ (t : Turn After). Does (k .device) (record { next = t .next .reply .controller .device; events = t .events })) (ltb (length buf) 32)
+    by (λ (t : Turn After). Does (k .device) (record { next = t .next .reply .controller .device; events = t .events })) (ltb (length (l .buffer)) 32)
     (λ h. none)
     (λ h. frame-does (k .device) g (take (sizeOf g) (squeezedOf ours deed frame)) (got-brings ours deed frame))
 every-call-does (Calls.listen bytes) k = none
@@ -193,6 +167,6 @@ every-call-does Calls.tick k = call Machine.tick tt
 every-call-does Calls.stop k = call Machine.stop tt
 every-call-does (Calls.advance n) k = ticks n
 every-call-does (Calls.run n) k =
-    by (λ (r : Ran). Does (k .device) (record { next = r .device; events = ticksEvents (ticksUsed (r .used)) (k .device) })) (ltb 60000 n)
+    by (λ (r : Ran). Does (k .device) (record { next = r .turned .device; events = ticksEvents (ticksUsed (r .used)) (k .device) })) (ltb 60000 n)
     (λ h. none)
-    (λ h. ticks (usedOf n (k .device .text) (k .device .core)))
+    (λ h. ticks (usedOf n (around (k .device .text)) (fine (k .device .core))))

@@ -94,7 +94,7 @@ pub record Computed : Type 0 where
 
 -- opened: every definition on the way of a byte or a tick, so that rows can be added freely
 pub computed : Computed
-unfolding BasicsBytes.digit BasicsBytes.every BasicsBytes.valueOf BasicsLay.over BasicsLay.fits BasicsLay.laidIn DecimalDigits.lastDigits DecimalDigits.trim DecimalDigits.digitsOf DecimalDigits.fixedOf SettingsLimits.within SettingsUnits.nearest SettingsUnits.tenthsOf SettingsUnits.flowOf SettingsUnits.ticksOf SettingsUnits.rateOf SettingsUnits.millionthsOf SettingsUnits.goalOf SettingsUnits.nanolitresOf SettingsUnits.goneOf OperandNumber.digits OperandNumber.decimalsOf OperandNumber.followedOf OperandNumber.numberOf OperandNumber.behindComma OperandNumber.pairOf OperandText.run OperandText.rest Command.placed Command.foundIn Command.commandAt CommandTable.letterOf CommandTable.allowed CommandTable.takenOf CommandTable.wholeOf CommandTable.nanolitresOf CommandTable.speedOf CommandTable.inTenths CommandTable.flowOf CommandTable.made CommandTable.both CommandTable.inUnit CommandTable.volumeOf CommandTable.pacedOf CommandTable.slopesOf CommandTable.compensationOf CommandTable.commandOf TextData.spaceless TextData.askedOf TextData.body TextData.runs TextData.stringOf TextData.controlOf TextData.dataOf TextLoops.levelOf TextLoops.levels TextLoops.loopsOk Text.readFrom Text.readOf Text.checkOf LineAnswer.statusOf LineAnswer.reportOf LineAnswer.answerOf LineWire.printable LineWire.endOf LineWire.takeOf LineWire.hearOf LineWire.keepOf Motion.plungerOf Motion.homeOf Motion.within Motion.targetOf Motion.setOut Motion.aimed Motion.moveOf Motion.delayOf Motion.effectOf Motion.carried Motion.onwardOf Motion.cutOf Motion.resetOf Motion.freshBody BufferOrder.orderOf BufferOrder.sized BufferOrder.codeOf BufferCourse.halted MachineAct.haltOf MachineAct.stopOf MachineAct.doneOf BufferOrder.laidBy BufferOrder.storedBy MachineAct.actedOf BufferCourse.passOf BufferCourse.reached BufferCourse.goneOn BufferCourse.openedOf BufferCourse.closedBy BufferCourse.closedOf MachineDevice.freshOf MachineDevice.tickOf MachineDevice.advanceOf MachineRun.ticksOf MachineStep.appliedOf MachineStep.takenOf MachineStep.carriedOn MachineStep.activeOf MachineStep.stepOf PipettorByte.fetchedOf PipettorByte.squeezedIn PipettorByte.gotOf PipettorByte.squeezedOf PipettorByte.taskOf PipettorByte.taskCode PipettorByte.taskDone PipettorByte.taskText PipettorByte.outcomeOf PipettorByte.saidOf PipettorByte.writtenOf PipettorByte.heardOf PipettorByte.byteOf PipettorController.madeOf PipettorController.advancedOf Reports.goalIn Reports.settingOf Reports.valueOf Reports.queryOf Reports.tellOf Calls.callOf Calls.answerOf Calls.afterOf Calls.answersOf Calls.answers MachineDevice.ranOf MachineRun.usedOf PipettorController.runOf seen wrongIn wrongOf Calls.ticksEvents Calls.eventsOf Calls.after Calls.history History.callOf History.eventsOf
+unfolding BasicsBytes.digit BasicsBytes.every BasicsBytes.valueOf BasicsLay.over BasicsLay.fits BasicsLay.laidIn DecimalDigits.lastDigits DecimalDigits.trim DecimalDigits.digitsOf DecimalDigits.fixedOf SettingsLimits.within SettingsUnits.nearest SettingsUnits.tenthsOf SettingsUnits.flowOf SettingsUnits.ticksOf SettingsUnits.rateOf SettingsUnits.millionthsOf SettingsUnits.goalOf SettingsUnits.nanolitresOf SettingsUnits.goneOf OperandNumber.digits OperandNumber.decimalsOf OperandNumber.followedOf OperandNumber.numberOf OperandNumber.behindComma OperandNumber.pairOf OperandText.run OperandText.rest Command.placed Command.foundIn Command.commandAt CommandTable.letterOf CommandTable.allowed CommandTable.takenOf CommandTable.wholeOf CommandTable.nanolitresOf CommandTable.speedOf CommandTable.inTenths CommandTable.flowOf CommandTable.made CommandTable.both CommandTable.inUnit CommandTable.volumeOf CommandTable.pacedOf CommandTable.slopesOf CommandTable.compensationOf CommandTable.commandOf TextData.spaceless TextData.askedOf TextData.body TextData.runs TextData.stringOf TextData.controlOf TextData.dataOf TextLoops.levelOf TextLoops.levels TextLoops.loopsOk Text.readFrom Text.readOf Text.checkOf LineAnswer.statusOf LineAnswer.reportOf LineAnswer.answerOf LineWire.printable LineWire.endOf LineWire.takeOf LineWire.hearOf LineWire.keepOf Motion.plungerOf Motion.homeOf Motion.within Motion.targetOf Motion.setOut Motion.aimed Motion.moveOf Motion.delayOf Motion.waitedOf Motion.effectOf Motion.carried Motion.onwardOf Motion.cutOf Motion.resetOf Motion.freshBody BufferOrder.cellOf BufferOrder.loopsBy BufferOrder.sized BufferOrder.verdictOf BufferCourse.halted MachineAct.haltOf MachineAct.stopOf MachineAct.changedOf MachineAct.doneOf BufferOrder.laidBy BufferOrder.storedBy MachineAct.actedOf MachineAct.actOf BufferCourse.passOf BufferCourse.reached BufferCourse.openedOf BufferCourse.closedBy BufferCourse.closedOf MachineDevice.freshOf MachineDevice.tickOf MachineDevice.advanceOf MachineRun.ticksOf MachineStep.appliedOf MachineStep.takenOf MachineStep.carriedOn MachineStep.runningOf MachineStep.activeOf MachineStep.stepOf MachineStep.nextOf PipettorByte.fetchedOf PipettorByte.squeezedIn PipettorByte.gotOf PipettorByte.squeezedOf PipettorByte.taskOf PipettorByte.performedOf PipettorByte.outcomeOf PipettorByte.saidOf PipettorByte.writtenOf PipettorByte.dealtOf PipettorByte.heardOf PipettorByte.byteOf PipettorController.madeOf PipettorController.advancedOf Reports.goalIn Reports.settingOf Reports.valueOf Reports.queryOf Reports.tellOf Calls.callOf Calls.answerOf Calls.afterOf Calls.answersOf Calls.answers MachineDevice.ranOf MachineRun.usedOf PipettorController.runOf seen wrongIn wrongOf Calls.ticksEvents Calls.eventsOf Calls.after Calls.history History.callOf History.eventsOf
 computed = record {
   the-examples-hold = refl;
   no-mistake-is-made = refl;

@@ -44,7 +44,7 @@ events-two (c ∷ xs) ys k =
 -- no call changes the address
 call-keeps-address : (c : Call) (k : Controller) → callOf c k .next .address ≡ k .address
 unfolding callOf byteOf heardOf listenedOf tickedOf stoppedOf advancedOf runOf
-call-keeps-address (byte b buf) k = by (λ (t : Turn After). t .next .reply .controller .address ≡ k .address) (ltb (length buf) 32) (λ h. refl) (λ h. refl)
+call-keeps-address (byte b l) k = by (λ (t : Turn After). t .next .reply .controller .address ≡ k .address) (ltb (length (l .buffer)) 32) (λ h. refl) (λ h. refl)
 call-keeps-address (listen bytes) k = refl
 call-keeps-address tick k = refl
 call-keeps-address stop k = refl

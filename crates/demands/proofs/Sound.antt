@@ -4,16 +4,16 @@ use mathlib.Core.List.{List, [], _∷_, _++_}
 use Prim.Native.Nat.{ℕ, zero, suc}
 use native.Mathlib.Omega.{arith}
 use lib.Dec.{ltb}
-use lib.ListN.{length-replicate}
+use lib.ListN.{replicate, length-replicate}
 use Rattle.basics.proofs.Choice.{by}
 use Rattle.motion.specs.Events.{Turn}
 use Rattle.motion.specs.Motion.{freshBody}
 use Rattle.machine.specs.declared.Device.{Device}
 use Rattle.machine.specs.declared.Ran.{Ran}
-use Rattle.machine.specs.Run.{ticksOf}
+use Rattle.machine.specs.Step.{around}
 use Rattle.machine.specs.Valid.{Ready}
 use Rattle.machine.specs.Device.{freshOf, tickOf, haltedOf, advanceOf, ranOf}
-use Rattle.machine.proofs.History.{added-on}
+use Rattle.machine.proofs.History.{added-on, to-advance-is-to-call-ticks}
 use Rattle.machine.specs.History as Machine
 use Rattle.machine.specs.History.{Sum, sum, addedUp, sumOf, IsSum}
 use Rattle.machine.specs.OnCourse.{OnCourse}
@@ -31,12 +31,13 @@ use Rattle.demands.proofs.Does.{Does, none, new-error, call, ticks, eve
 -- the exact position stays the sum of the history, and the plunger by it or on its way
 call-tells : (k : Machine.Call) (d : Device) (s : Sum) → CoreTold (d .core) s → (let t = Machine.callOf k d in CoreTold (t .next .core) (addedUp s (t .events)))
 unfolding Machine.callOf tickOf haltedOf
-call-tells Machine.tick d s told = step-tells (d .core) s told (d .text)
-call-tells (Machine.act a added) d s told = act-tells (d .core) s told a added (d .text)
+call-tells Machine.tick d s told = step-tells (d .core) s told (around (d .text))
+call-tells (Machine.act a added) d s told = act-tells a added d s told
 call-tells Machine.stop d s told = stop-tells (d .core) s told
 
-ticks-tell : (n : ℕ) (d : Device) (s : Sum) → CoreTold (d .core) s → CoreTold (advanceOf n d .core) (addedUp s (ticksEvents n d))
-unfolding advanceOf ticksOf ticksEvents Machine.eventsOf Machine.callOf tickOf addedUp
+-- ticks are as many calls of one
+ticks-tell : (n : ℕ) (d : Device) (s : Sum) → CoreTold (d .core) s → CoreTold (Machine.afterOf (replicate n Machine.tick) d .core) (addedUp s (ticksEvents n d))
+unfolding ticksEvents Machine.afterOf Machine.eventsOf addedUp
 ticks-tell zero d s told = told
 ticks-tell (suc n) d s told =
     let t = Machine.callOf Machine.tick d in
@@ -46,44 +47,44 @@ ticks-tell (suc n) d s told =
 does-tell : (d : Device) (s : Sum) (t : Turn Device) → Does d t → CoreTold (d .core) s → CoreTold (t .next .core) (addedUp s (t .events))
 unfolding addedUp
 does-tell d s t none told = told
-does-tell d s t (new-error code) told = told
+does-tell d s t (new-error why) told = told
 does-tell d s t (call k sent) told = call-tells k d s told
-does-tell d s t (ticks n) told = ticks-tell n d s told
+does-tell d s t (ticks n) told = rw (to-advance-is-to-call-ticks n d) at (ticks-tell n d s told)
 
 -- the course is kept
-ticks-keep-on-course : (n : ℕ) (d : Device) → Ready (d .core) (d .text) → OnCourse d → OnCourse (advanceOf n d)
-unfolding advanceOf ticksOf Machine.callOf tickOf
+ticks-keep-on-course : (n : ℕ) (d : Device) → Ready (d .core) (d .text) → OnCourse d → OnCourse (Machine.afterOf (replicate n Machine.tick) d)
+unfolding Machine.afterOf Machine.callOf tickOf
 ticks-keep-on-course zero d r o = o
 ticks-keep-on-course (suc n) d r o =
     ticks-keep-on-course n (Machine.callOf Machine.tick d .next)
-    (record { valid = step-keeps (d .core) (r .valid) (d .text); long = r .long })
+    (record { valid = step-keeps (d .core) (r .valid) (around (d .text)); long = r .long })
     (a-call-keeps-on-course Machine.tick d r tt o)
 
 does-keep-on-course : (d : Device) (t : Turn Device) → Does d t → Ready (d .core) (d .text) → OnCourse d → OnCourse (t .next)
 does-keep-on-course d t none r o = o
-does-keep-on-course d t (new-error code) r o = o
+does-keep-on-course d t (new-error why) r o = o
 does-keep-on-course d t (call k sent) r o = a-call-keeps-on-course k d r sent o
-does-keep-on-course d t (ticks n) r o = ticks-keep-on-course n d r o
+does-keep-on-course d t (ticks n) r o = rw (to-advance-is-to-call-ticks n d) at (ticks-keep-on-course n d r o)
 
 -- the premise of every call, and the lengths of the arrays
 pub call-keeps-valid : (c : Call) (k : Controller) → Sized k → Valid k → Valid (callOf c k .next)
 unfolding callOf
-call-keeps-valid (byte b buf) k s v = byte-keeps k b buf s v
+call-keeps-valid (byte b l) k s v = byte-keeps k b (l .buffer) s v
 call-keeps-valid (listen bytes) k s v = listen-keeps k bytes v
 call-keeps-valid tick k s v = tick-keeps k v
 call-keeps-valid stop k s v = stop-keeps-valid k v
 call-keeps-valid (advance n) k s v = advance-keeps k v n
 call-keeps-valid (run n) k s v = run-keeps k v n
 
-pub call-keeps-sized : (c : Call) (k : Controller) → Sized k → Sized (callOf c k .next)
+pub call-keeps-sized : (c : Call) (k : Controller) → Sized k → Valid k → Sized (callOf c k .next)
 unfolding callOf tickedOf tickOf stoppedOf haltedOf advancedOf advanceOf runOf ranOf
-call-keeps-sized (byte b buf) k s = byte-keeps-sizes k b buf s
-call-keeps-sized (listen bytes) k s = listen-keeps-sizes k bytes s
-call-keeps-sized tick k s = record { frame = s .frame; text = s .text }
-call-keeps-sized stop k s = record { frame = s .frame; text = s .text }
-call-keeps-sized (advance n) k s = record { frame = s .frame; text = s .text }
-call-keeps-sized (run n) k s =
-    by (λ (r : Ran). Sized (on (r .device) k)) (ltb 60000 n)
+call-keeps-sized (byte b l) k s v = byte-keeps-sizes k b (l .buffer) s v
+call-keeps-sized (listen bytes) k s v = listen-keeps-sizes k bytes s
+call-keeps-sized tick k s v = record { frame = s .frame; text = s .text }
+call-keeps-sized stop k s v = record { frame = s .frame; text = s .text }
+call-keeps-sized (advance n) k s v = record { frame = s .frame; text = s .text }
+call-keeps-sized (run n) k s v =
+    by (λ (r : Ran). Sized (on (r .turned .device) k)) (ltb 60000 n)
     (λ h. record { frame = s .frame; text = s .text })
     (λ h. record { frame = s .frame; text = s .text })
 
@@ -108,7 +109,7 @@ call-keeps-sound c k s h =
     let does = every-call-does c k in
     record {
       valid = call-keeps-valid c k (h .sized) (h .valid);
-      sized = call-keeps-sized c k (h .sized);
+      sized = call-keeps-sized c k (h .sized) (h .valid);
       told = does-tell (k .device) s _ does (h .told);
       on-course = does-keep-on-course (k .device) _ does (record { valid = h .valid .core; long = h .sized .text }) (h .on-course);
     }

@@ -2,81 +2,120 @@
 use mathlib.Core.Path.{_≡_, refl, sym, ap, subst, _∙_}
 use mathlib.Core.Bool.{Bool, true, false}
 use mathlib.Core.Logic.{_⊎_, inl, inr}
-use mathlib.Core.List.{List, _++_}
+use mathlib.Core.List.{List, [], _++_}
 use Prim.Native.Nat.{ℕ, zero, suc, _%_, _≤_}
 use native.Mathlib.Omega.{arith}
 use lib.ListN.{length, take, getD}
 use Rattle.basics.specs.Bytes.{every}
 use Rattle.basics.specs.Lay.{over}
 use Rattle.basics.proofs.Choice.{by}
+use Rattle.command.specs.declared.refusal.Refusal.{Refusal}
+use Rattle.command.specs.declared.refusal.Refusal.the-variants as R
+use Rattle.command.specs.declared.refusal.Verdict.the-variants.{Fine, Refused}
 use Rattle.command.specs.declared.Found.{Found}
 use Rattle.command.specs.declared.Found.the-variants as F
 use Rattle.command.specs.Command.{commandAt}
+use Rattle.command.proofs.Numbers.{zero-is-fine}
 use Rattle.text.specs.declared.Data.the-variants as D
 use Rattle.text.specs.Data.{spaceless, body, receivedOf}
 use Rattle.line.specs.Wire.{dataByte}
 use Rattle.line.specs.Answer as Answer
 use Rattle.line.specs.Answer.{statusOf}
 use Rattle.line.proofs.Answers.{status-bits}
+use Rattle.motion.specs.declared.Body.{Body}
 use Rattle.motion.specs.declared.Activity.{Activity}
 use Rattle.motion.specs.declared.Activity.the-variants.{Initialising, Moving, Delaying, Between}
 use Rattle.motion.specs.declared.Effect.{Effect}
-use Rattle.motion.specs.declared.Effect.the-variants.{Goes, Fails, Opens, Closes}
+use Rattle.motion.specs.declared.Effect.the-variants.{Goes, Ends, Fails, Opens, Closes}
 use Rattle.motion.specs.Events.{Turn}
-use Rattle.motion.specs.Motion.{effectOf, onwardOf}
+use Rattle.motion.specs.Motion.{between, effectOf, onwardOf}
 use Rattle.buffer.specs.declared.course.State.{State}
 use Rattle.buffer.specs.declared.course.State.the-variants.{Empty, Stored, Running, Stopped, Done}
+use Rattle.buffer.specs.declared.course.Column.{Column}
+use Rattle.buffer.specs.declared.course.Column.the-variants as K
 use Rattle.buffer.specs.declared.course.Loops.{Loops}
 use Rattle.buffer.specs.declared.course.Course.{Course}
+use Rattle.buffer.specs.declared.course.Went.{Went}
+use Rattle.buffer.specs.declared.order.Loading.the-variants.{Joined, Replacing}
+use Rattle.buffer.specs.declared.order.Order.{Order}
+use Rattle.buffer.specs.declared.order.Order.the-variants as O
+use Rattle.buffer.specs.Course.{whileOf, reached}
+use Rattle.buffer.specs.Order.{cellOf, orderOf, verdictOf}
 use Rattle.machine.specs.declared.step.Core.{Core}
+use Rattle.machine.specs.declared.step.Stepped.{Stepped}
 use Rattle.machine.specs.declared.Device.{Device}
-use Rattle.buffer.specs.Course.{reached, goneOn}
-use Rattle.machine.specs.Step.{appliedOf, takenOf, carriedOn, activeOf, stepOf}
+use Rattle.machine.specs.Step.{Around, around, core, fine, wentOf, appliedOf, takenOf, carriedOn, runningOf, activeOf, stepOf, nextOf}
 use Rattle.machine.specs.Run.{readyIn, readyOf, ticksOf}
 use Rattle.machine.specs.Device.{advanceOf}
+use Rattle.machine.specs.Valid.{Ready}
+use Rattle.machine.specs.Refusals as Buffer
+use Rattle.machine.specs.Refusals.{verdictFor}
+use Rattle.machine.specs.Act.{actOf}
+use Rattle.machine.specs.History as Machine
 use Rattle.machine.proofs.Looping.{behind-open, behind-close}
 use Rattle.machine.proofs.Runs.{ready-ticks}
-use Rattle.buffer.specs.declared.order.Action.the-variants as A
-use Rattle.machine.specs.Valid.{Ready}
-use Rattle.machine.specs.Refusals.{answerOf}
-use Rattle.buffer.specs.Order.{orderOf, codeOf}
-use Rattle.machine.specs.Act.{actOf, textOf}
-use Rattle.machine.specs.History as Machine
-use Rattle.machine.proofs.Stored.{a-string-that-replaces-is-stored-whole, a-string-that-joins-is-stored-behind}
+use Rattle.machine.proofs.Stored.{a-string-that-is-loaded-is-stored-whole}
 use Rattle.pipettor.specs.declared.address.Address.{Address}
 use Rattle.pipettor.specs.declared.Controller.{Controller}
 use Rattle.pipettor.specs.Controller.{advancedOf}
-use Rattle.pipettor.specs.Byte.{stringAction, taskOf, taskCode, taskDone, taskText}
-use Rattle.frames.specs.Frame.{Exchange, doesOf, exchangeOf}
+use Rattle.pipettor.specs.Byte.{stringAction, taskOf, performedOf, Exchange, dealtOf}
+use Rattle.frames.specs.Frame.{exchangeOf}
 use Rattle.frames.specs.Refused.{numberFor, refusalOf, Known}
 use Rattle.frames.specs.Limits.{frontOf, wholeOf}
 use Rattle.frames.proofs.Refusals.{no-other-number, every-frame-is-answered}
-use Rattle.frames.proofs.Texts.{added-body, the-size-of-a-text}
+use Rattle.frames.proofs.Texts.{added-body}
 use Rattle.demands.specs.Calls.{Call, after}
 use Rattle.demands.specs.Frames.{frameSeen}
 use Rattle.demands.specs.Texts.{held, SaysAccepted}
 use Rattle.demands.proofs.Frames.{a-frame-is-seen-as-an-exchange}
 use Rattle.demands.proofs.Sound.{every-controller-is-sound}
 
--- the text that is held after a string is accepted, by the state
-module _ (added text : List ℕ) (c : Core) (ready : Ready c text) where
-  stored-by :
-      (run : Bool) (s : State) → c .course .state ≡ s → answerOf (stringAction run) added text c ≡ 0 →
-      take (actOf (stringAction run) added text c .next .course .len) (textOf (stringAction run) added text c) ≡ frontOf run s (take (c .course .len) text) ++ added
-  unfolding orderOf codeOf
-  stored-by true Stored e ok = a-string-that-joins-is-stored-behind A.Launch added text c ready ok (rw e)
-  stored-by true Empty e ok = a-string-that-replaces-is-stored-whole A.Launch added text c ready ok true (rw e)
-  stored-by true Stopped e ok = a-string-that-replaces-is-stored-whole A.Launch added text c ready ok true (rw e)
-  stored-by true Done e ok = a-string-that-replaces-is-stored-whole A.Launch added text c ready ok true (rw e)
-  stored-by true (Running (Delaying k)) e ok = a-string-that-replaces-is-stored-whole A.Launch added text c ready ok true (rw e)
-  stored-by true (Running (Initialising t)) e ok = let z : _≡_ {A = ℕ} 15 0 = rw e at ok in absurd (omega arith)
-  stored-by true (Running (Moving t)) e ok = let z : _≡_ {A = ℕ} 15 0 = rw e at ok in absurd (omega arith)
-  stored-by true (Running Between) e ok = let z : _≡_ {A = ℕ} 15 0 = rw e at ok in absurd (omega arith)
-  stored-by false Stored e ok = a-string-that-replaces-is-stored-whole A.Store added text c ready ok false (rw e)
-  stored-by false Empty e ok = a-string-that-replaces-is-stored-whole A.Store added text c ready ok false (rw e)
-  stored-by false Stopped e ok = a-string-that-replaces-is-stored-whole A.Store added text c ready ok false (rw e)
-  stored-by false Done e ok = a-string-that-replaces-is-stored-whole A.Store added text c ready ok false (rw e)
-  stored-by false (Running a) e ok = let z : _≡_ {A = ℕ} 15 0 = rw e at ok in absurd (omega arith)
+-- a string that is accepted is loaded, behind the stored text or instead of it
+data Loads (run : Bool) (stored : List ℕ) : Order → List ℕ → Type 0 where
+  joins : Loads run stored (O.Load Joined run) stored
+  replaces : Loads run stored (O.Load Replacing run) []
+  refuses : (why : Refusal) (front : List ℕ) → Loads run stored (O.Refuse why) front
+
+loads-while : (run : Bool) (k : Column) (stored : List ℕ) → (k ≡ K.Busy) ⊎ (k ≡ K.Delaying) → Loads run stored (cellOf (stringAction run) k) []
+unfolding cellOf
+loads-while true k stored (inl e) = rw e (refuses R.Busy [])
+loads-while true k stored (inr e) = rw e replaces
+loads-while false k stored (inl e) = rw e (refuses R.Busy [])
+loads-while false k stored (inr e) = rw e (refuses R.Busy [])
+
+column-while : (a : Activity) → (whileOf a ≡ K.Busy) ⊎ (whileOf a ≡ K.Delaying)
+column-while (Initialising t) = inl refl
+column-while (Moving t) = inl refl
+column-while (Delaying k) = inr refl
+column-while Between = inl refl
+
+front-while : (run : Bool) (a : Activity) (text : List ℕ) → frontOf run (Running a) text ≡ []
+front-while true a text = refl
+front-while false a text = refl
+
+loads : (run : Bool) (s : State) (stored : List ℕ) → Loads run stored (orderOf (stringAction run) s) (frontOf run s stored)
+unfolding cellOf
+loads true Empty stored = replaces
+loads true Stored stored = joins
+loads true Stopped stored = replaces
+loads true Done stored = replaces
+loads false Empty stored = replaces
+loads false Stored stored = replaces
+loads false Stopped stored = replaces
+loads false Done stored = replaces
+loads run (Running a) stored = rw (front-while run a stored) (loads-while run (whileOf a) stored (column-while a))
+
+-- the text that is held after a string is accepted
+stored-by :
+    (added : List ℕ) (d : Device) → Ready (d .core) (d .text) → (run : Bool) (o : Order) (front : List ℕ) → orderOf (stringAction run) (d .core .course .state) ≡ o →
+    Loads run (held d) o front → verdictFor (stringAction run) added d ≡ Fine → held (actOf (stringAction run) added d .next .device) ≡ front ++ added
+unfolding verdictOf
+stored-by added d ready run o front e joins ok = a-string-that-is-loaded-is-stored-whole (stringAction run) added d Joined run ready ok e
+stored-by added d ready run o front e replaces ok = a-string-that-is-loaded-is-stored-whole (stringAction run) added d Replacing run ready ok e
+stored-by added d ready run o front e (refuses why other) ok =
+    let z : Refused why ≡ Fine = rw e at ok in
+    let y : _≡_ {A = ℕ} 0 1 = cc in
+    absurd (omega arith)
 
 -- a number that a frame can get, of which the status byte's low four bits say 0
 accepted-is-0 : (n : ℕ) → Known n → n % 16 ≡ 0 → n ≡ 0
@@ -89,10 +128,10 @@ accepted-is-0 n (inr (inr (inr (inr h)))) e = omega arith
 -- data that are a string
 module _ (ds : List ℕ) (n : ℕ) (run : Bool) (string : receivedOf ds ≡ D.Text n run) (a : Address) (d : Device) (buf : List ℕ) where
   acts : exchangeOf ds a d buf .next .device ≡ Machine.callOf (Machine.act (stringAction run) (body (spaceless ds))) d .next
-  unfolding exchangeOf doesOf taskOf taskCode taskDone taskText Machine.callOf actOf textOf
-  acts = rw (added-body ds n run string, string, the-size-of-a-text ds n run string)
+  unfolding exchangeOf dealtOf taskOf performedOf Machine.callOf
+  acts = rw (added-body ds n run string, string)
 
-  number-is : refusalOf ds a d ≡ answerOf (stringAction run) (body (spaceless ds)) (d .text) (d .core)
+  number-is : refusalOf ds a d ≡ Buffer.numberFor (stringAction run) (body (spaceless ds)) d
   unfolding refusalOf numberFor
   number-is = rw (added-body ds n run string, string)
 
@@ -108,7 +147,10 @@ module _ (ds : List ℕ) (n : ℕ) (run : Bool) (string : receivedOf ds ≡ D.Te
 
   kept : Ready (d .core) (d .text) → SaysAccepted (exchangeOf ds a d buf .next .buffer) → held (exchangeOf ds a d buf .next .device) ≡ wholeOf run ds d
   unfolding Machine.callOf
-  kept ready e = rw acts (stored-by (body (spaceless ds)) (d .text) (d .core) ready run (d .core .course .state) refl (rw number-is at (accepted e)))
+  kept ready e =
+      let s = d .core .course .state in
+      let fine = zero-is-fine (verdictFor (stringAction run) (body (spaceless ds)) d) (rw number-is at (accepted e)) in
+      rw acts (stored-by (body (spaceless ds)) d ready run (orderOf (stringAction run) s) (frontOf run s (held d)) refl (loads run s (held d)) fine)
 
 -- No accepted text loses a character: where the answer to a frame says accepted, all of its text is held, behind what was stored where it is joined.
 pub no-accepted-text-loses-a-character :
@@ -127,61 +169,68 @@ no-accepted-text-loses-a-character a calls ds buf n run good long string =
 abbrev Stays : Course → Course → Type 0
 Stays c d = (d .len ≡ c .len) ⊎ (d .state ≡ Empty)
 
-module _ (c : Course) where
-  reached-stays : (at : ℕ) (l : Loops) → Stays c (reached at l c)
-  unfolding reached
-  reached-stays at l = inl refl
-
-  gone-on-stays : (a : Activity) (at : ℕ) → Stays c (goneOn a at c)
-  unfolding goneOn
-  gone-on-stays (Initialising t) at = inl refl
-  gone-on-stays (Moving t) at = inl refl
-  gone-on-stays (Delaying k) at = inl refl
-  gone-on-stays Between at = reached-stays at (c .loops)
-
 module _ (c : Core) where
-  applied-stays : (e : Effect) (next : ℕ) → Stays (c .course) (appliedOf e next c .course)
-  unfolding appliedOf
-  applied-stays (Goes m) next = gone-on-stays (c .course) (m .activity) next
-  applied-stays (Fails code) next = inr refl
-  applied-stays Opens next = behind-open (Stays (c .course)) (c .course) (reached-stays (c .course)) (inr refl) next
-  applied-stays (Closes n) next = behind-close (Stays (c .course)) (c .course) (reached-stays (c .course)) (inr refl) n next
+  abbrev StaysIn : Stepped → Type 0
+  StaysIn s = Stays (c .course) (s .core .course)
 
-  taken-stays : (f : Found) → Stays (c .course) (takenOf f c .next .course)
+  abbrev WentStays : Went → Type 0
+  WentStays g = StaysIn (wentOf g (c .body) (c .course))
+
+  reached-stays : (b : Body) (at : ℕ) (l : Loops) → StaysIn (fine (core b (reached at l (c .course))))
+  unfolding reached
+  reached-stays b at l = inl refl
+
+  applied-stays : (e : Effect) (next : ℕ) → StaysIn (appliedOf e next c)
+  unfolding appliedOf
+  applied-stays (Goes b a) next = inl refl
+  applied-stays (Ends b) next = reached-stays b next (c .course .loops)
+  applied-stays (Fails why b) next = inr refl
+  applied-stays Opens next = behind-open WentStays (c .course) (reached-stays (c .body)) (inr refl) next
+  applied-stays (Closes n) next = behind-close WentStays (c .course) (reached-stays (c .body)) (inr refl) n next
+
+  taken-stays : (f : Found) → StaysIn (takenOf f c .next)
   unfolding takenOf
   taken-stays (F.Command k next) = applied-stays (effectOf k (c .body) .next) next
-  taken-stays (F.Refused r) = inr refl
-  taken-stays F.End = reached-stays (c .course) (c .course .at) (c .course .loops)
+  taken-stays (F.Refused m) = inr refl
+  taken-stays F.End = reached-stays (c .body) (c .course .at) (c .course .loops)
 
-  carried-stays : (a : Activity) → Stays (c .course) (carriedOn a c .course)
-  unfolding carriedOn
-  carried-stays a = gone-on-stays (c .course) (onwardOf a (c .body) .activity) (c .course .at)
+  running-stays : (a : Activity) (w : Around) → StaysIn (runningOf a w c .next)
+  unfolding runningOf carriedOn
+  running-stays a w =
+      by (λ (t : Turn Stepped). StaysIn (t .next)) (between a)
+      (λ h. taken-stays (commandAt (take (c .course .len) (w .text)) (c .course .at)))
+      (λ h. applied-stays (onwardOf a (c .body) .next) (c .course .at))
 
-  active-stays : (s : State) (text : List ℕ) → Stays (c .course) (activeOf s text c .next .course)
+  active-stays : (s : State) (w : Around) → StaysIn (activeOf s w c .next)
   unfolding activeOf
-  active-stays (Running (Initialising t)) text = carried-stays (Initialising t)
-  active-stays (Running (Moving t)) text = carried-stays (Moving t)
-  active-stays (Running (Delaying k)) text = carried-stays (Delaying k)
-  active-stays (Running Between) text = taken-stays (commandAt (take (c .course .len) text) (c .course .at))
-  active-stays Empty text = inl refl
-  active-stays Stored text = inl refl
-  active-stays Stopped text = inl refl
-  active-stays Done text = inl refl
+  active-stays (Running a) w = running-stays a w
+  active-stays Empty w = inl refl
+  active-stays Stored w = inl refl
+  active-stays Stopped w = inl refl
+  active-stays Done w = inl refl
 
-ticks-stay : (n : ℕ) (text : List ℕ) (c : Core) → Stays (c .course) (ticksOf n text c .course)
-unfolding ticksOf stepOf
-ticks-stay zero text c = inl refl
-ticks-stay (suc n) text c = go (active-stays c (c .course .state) text) (ticks-stay n text (stepOf text c .next))
+next-stays : (w : Around) (s : Stepped) → Stays (s .core .course) (nextOf w s .core .course)
+unfolding nextOf stepOf
+next-stays w s = active-stays (s .core) (s .core .course .state) w
+
+ticks-stay : (n : ℕ) (w : Around) (s : Stepped) → Stays (s .core .course) (ticksOf n w s .core .course)
+unfolding ticksOf
+ticks-stay zero w s = inl refl
+ticks-stay (suc n) w s = go (next-stays w s) (ticks-stay n w (nextOf w s))
   where
-    go : Stays (c .course) (stepOf text c .next .course) → Stays (stepOf text c .next .course) (ticksOf n text (stepOf text c .next) .course) → Stays (c .course) (ticksOf n text (stepOf text c .next) .course)
+    go : Stays (s .core .course) (nextOf w s .core .course) → Stays (nextOf w s .core .course) (ticksOf n w (nextOf w s) .core .course) → Stays (s .core .course) (ticksOf n w (nextOf w s) .core .course)
     go first (inr e) = inr e
     go (inl p) (inl q) = inl (q ∙ p)
-    go (inr e) (inl q) = inr (ap (λ (d : Core). d .course .state) (ready-ticks n text (stepOf text c .next) (ap readyIn e)) ∙ e)
+    go (inr e) (inl q) = inr (ap (λ (r : Stepped). r .core .course .state) (ready-ticks n w (nextOf w s) (ap readyIn e)) ∙ e)
 
-pub a-text-stays-while-it-runs : (n : ℕ) (k : Controller) → (held (advancedOf n k .device) ≡ held (k .device)) ⊎ (advancedOf n k .device .core .course .state ≡ Empty)
+pub a-text-stays-while-it-runs :
+    (n : ℕ) (k : Controller) → (held (advancedOf n k .controller .device) ≡ held (k .device)) ⊎ (advancedOf n k .controller .device .core .course .state ≡ Empty)
 unfolding advancedOf advanceOf
-a-text-stays-while-it-runs n k = go (ticks-stay n (k .device .text) (k .device .core))
+a-text-stays-while-it-runs n k = go (ticks-stay n (around (k .device .text)) (fine (k .device .core)))
   where
-    go : Stays (k .device .core .course) (ticksOf n (k .device .text) (k .device .core) .course) → (take (ticksOf n (k .device .text) (k .device .core) .course .len) (k .device .text) ≡ held (k .device)) ⊎ (ticksOf n (k .device .text) (k .device .core) .course .state ≡ Empty)
+    later : Course
+    later = ticksOf n (around (k .device .text)) (fine (k .device .core)) .core .course
+
+    go : Stays (k .device .core .course) later → (take (later .len) (k .device .text) ≡ held (k .device)) ⊎ (later .state ≡ Empty)
     go (inl e) = inl (ap (λ (m : ℕ). take m (k .device .text)) e)
     go (inr e) = inr e

@@ -7,6 +7,9 @@ use contract.Lifetimes.{Lfts}
 use denote.Ref.{RefT, now}
 use denote.Triple.Clauses.{Lasts, atExit}
 use borrow.Fn.Kinds.{Dens, endedOf}
+use Rattle.machine.specs.declared.act.Done.{Done}
+use Rattle.machine.specs.Act.{Acted}
+use Rattle.pipettor.specs.declared.lent.Spoke.{Spoke}
 use Rattle.pipettor.specs.Byte.{After}
 use Rattle.basics.proofs as basics
 use Rattle.decimal.proofs as decimal
@@ -31,6 +34,10 @@ result p q = record { result-is = p ∙ sym q; left-is = refl }
 -- the same with the bytes that are left in a lent slice, among what is left
 lent : {A B : Type 0} (among : List ℕ → B) {z z′ v : A} {l l′ u : List ℕ} → z ≡ v → z′ ≡ v → l ≡ u → l′ ≡ u → Same z z′ (among l) (among l′)
 lent among p q x y = record { result-is = p ∙ sym q; left-is = ap among (x ∙ sym y) }
+
+-- the same where one equation gives the result and all that is left
+whole : {A B C : Type 0} (value : C → A) (left : C → B) {x x′ v : C} → x ≡ v → x′ ≡ v → Same (value x) (value x′) (left x) (left x′)
+whole value left p q = record { result-is = ap value (p ∙ sym q); left-is = ap left (p ∙ sym q) }
 
 -- basics
 pub basics-is-digit : Tight basics.is_digit.Kinds.ps basics.is_digit.Kinds.r basics.is_digit.Reads.Learnt
@@ -110,8 +117,17 @@ pub operand-extent : Tight operand.extent.Kinds.ps operand.extent.Kinds.r operan
 operand-extent κs args z z′ ws ws′ p q = result p q
 
 -- command
-pub command-Refusal-number : Tight command.Refusal.number.Kinds.ps command.Refusal.number.Kinds.r command.Refusal.number.Reads.Learnt
-command-Refusal-number κs args z z′ ws ws′ p q = result p q
+pub command-refusal-Misread-number : Tight command.refusal.Misread.number.Kinds.ps command.refusal.Misread.number.Kinds.r command.refusal.Misread.number.Reads.Learnt
+command-refusal-Misread-number κs args z z′ ws ws′ p q = result p q
+
+pub command-refusal-Refusal-number : Tight command.refusal.Refusal.number.Kinds.ps command.refusal.Refusal.number.Kinds.r command.refusal.Refusal.number.Reads.Learnt
+command-refusal-Refusal-number κs args z z′ ws ws′ p q = result p q
+
+pub command-refusal-Verdict-number : Tight command.refusal.Verdict.number.Kinds.ps command.refusal.Verdict.number.Kinds.r command.refusal.Verdict.number.Reads.Learnt
+command-refusal-Verdict-number κs args z z′ ws ws′ p q = result p q
+
+pub command-refusal-Verdict-first : Tight command.refusal.Verdict.first.Kinds.ps command.refusal.Verdict.first.Kinds.r command.refusal.Verdict.first.Reads.Learnt
+command-refusal-Verdict-first κs args z z′ ws ws′ p q = result p q
 
 pub command-command-at : Tight command.command_at.Kinds.ps command.command_at.Kinds.r command.command_at.Reads.Learnt
 command-command-at κs args z z′ ws ws′ p q = result p q
@@ -158,6 +174,12 @@ motion-Body-effect κs args z z′ ws ws′ p q = result p q
 pub motion-Body-onward : Tight motion.Body.onward.Kinds.ps motion.Body.onward.Kinds.r motion.Body.onward.Reads.Learnt
 motion-Body-onward κs args z z′ ws ws′ p q = result p q
 
+pub motion-Activity-moves : Tight motion.Activity.moves.Kinds.ps motion.Activity.moves.Kinds.r motion.Activity.moves.Reads.Learnt
+motion-Activity-moves κs args z z′ ws ws′ p q = result p q
+
+pub motion-Activity-between : Tight motion.Activity.between.Kinds.ps motion.Activity.between.Kinds.r motion.Activity.between.Reads.Learnt
+motion-Activity-between κs args z z′ ws ws′ p q = result p q
+
 pub motion-Body-cut : Tight motion.Body.cut.Kinds.ps motion.Body.cut.Kinds.r motion.Body.cut.Reads.Learnt
 motion-Body-cut κs args z z′ ws ws′ p q = result p q
 
@@ -201,11 +223,17 @@ buffer-course-Course-erase κs args z z′ ws ws′ p q = result p q
 pub buffer-course-Course-halt : Tight buffer.course.Course.halt.Kinds.ps buffer.course.Course.halt.Kinds.r buffer.course.Course.halt.Reads.Learnt
 buffer-course-Course-halt κs args z z′ ws ws′ p q = result p q
 
+pub buffer-course-State-column : Tight buffer.course.State.column.Kinds.ps buffer.course.State.column.Kinds.r buffer.course.State.column.Reads.Learnt
+buffer-course-State-column κs args z z′ ws ws′ p q = result p q
+
 pub buffer-order-Action-order : Tight buffer.order.Action.order.Kinds.ps buffer.order.Action.order.Kinds.r buffer.order.Action.order.Reads.Learnt
 buffer-order-Action-order κs args z z′ ws ws′ p q = result p q
 
-pub buffer-order-Order-code : Tight buffer.order.Order.code.Kinds.ps buffer.order.Order.code.Kinds.r buffer.order.Order.code.Reads.Learnt
-buffer-order-Order-code κs args z z′ ws ws′ p q = result p q
+pub buffer-order-Loading-kept : Tight buffer.order.Loading.kept.Kinds.ps buffer.order.Loading.kept.Kinds.r buffer.order.Loading.kept.Reads.Learnt
+buffer-order-Loading-kept κs args z z′ ws ws′ p q = result p q
+
+pub buffer-order-Order-verdict : Tight buffer.order.Order.verdict.Kinds.ps buffer.order.Order.verdict.Kinds.r buffer.order.Order.verdict.Reads.Learnt
+buffer-order-Order-verdict κs args z z′ ws ws′ p q = result p q
 
 pub buffer-order-store : Tight buffer.order.store.Kinds.ps buffer.order.store.Kinds.r buffer.order.store.Reads.Learnt
 buffer-order-store κs args z z′ ws ws′ p q = lent (λ y. (tt, (tt, (tt, (tt, (y, tt)))))) refl refl p q
@@ -227,8 +255,11 @@ machine-step-Core-stop κs args z z′ ws ws′ p q = result p q
 pub machine-step-Core-with-error : Tight machine.step.Core.with_error.Kinds.ps machine.step.Core.with_error.Kinds.r machine.step.Core.with_error.Reads.Learnt
 machine-step-Core-with-error κs args z z′ ws ws′ p q = result p q
 
+abbrev done : Acted → Done
+done a = record { core = a .device .core; verdict = a .verdict }
+
 pub machine-step-Core-act : Tight machine.step.Core.act.Kinds.ps machine.step.Core.act.Kinds.r machine.step.Core.act.Reads.Learnt
-machine-step-Core-act κs args z z′ ws ws′ p q = result p q
+machine-step-Core-act κs args z z′ ws ws′ p q = whole done (λ (a : Acted). (tt, (tt, (tt, (a .device .text, tt))))) p q
 
 pub machine-step-Core-skip : Tight machine.step.Core.skip.Kinds.ps machine.step.Core.skip.Kinds.r machine.step.Core.skip.Reads.Learnt
 machine-step-Core-skip κs args z z′ ws ws′ p q = result p q
@@ -258,11 +289,20 @@ pipettor-address-Address-letter κs args z z′ ws ws′ p q = result p q
 pub pipettor-Controller-fresh : Tight pipettor.Controller.fresh.Kinds.ps pipettor.Controller.fresh.Kinds.r pipettor.Controller.fresh.Reads.Learnt
 pipettor-Controller-fresh κs args z z′ ws ws′ p q = result p q
 
+abbrev spoke : After → Spoke
+spoke a = let c = a .reply .controller in record { parts = record { address = c .address; line = c .line; core = c .device .core }; said = a .reply .said }
+
+pub pipettor-lent-Parts-byte : Tight pipettor.lent.Parts.byte.Kinds.ps pipettor.lent.Parts.byte.Kinds.r pipettor.lent.Parts.byte.Reads.Learnt
+pipettor-lent-Parts-byte κs args z z′ ws ws′ p q = whole spoke (λ (a : After). let c = a .reply .controller in (tt, (tt, (c .frame, (c .device .text, (a .buffer, tt)))))) p q
+
 pub pipettor-Controller-byte : Tight pipettor.Controller.byte.Kinds.ps pipettor.Controller.byte.Kinds.r pipettor.Controller.byte.Reads.Learnt
-pipettor-Controller-byte κs args z z′ ws ws′ p q = lent (λ y. (tt, (tt, (y, tt)))) (ap (λ (a : After). a .reply) p) (ap (λ (a : After). a .reply) q) (ap (λ (a : After). a .buffer) p) (ap (λ (a : After). a .buffer) q)
+pipettor-Controller-byte κs args z z′ ws ws′ p q = whole (λ (a : After). a .reply) (λ (a : After). (tt, (tt, (a .buffer, tt)))) p q
 
 pub pipettor-Controller-listen : Tight pipettor.Controller.listen.Kinds.ps pipettor.Controller.listen.Kinds.r pipettor.Controller.listen.Reads.Learnt
 pipettor-Controller-listen κs args z z′ ws ws′ p q = result p q
+
+pub pipettor-Controller-ready : Tight pipettor.Controller.ready.Kinds.ps pipettor.Controller.ready.Kinds.r pipettor.Controller.ready.Reads.Learnt
+pipettor-Controller-ready κs args z z′ ws ws′ p q = result p q
 
 pub pipettor-Controller-tick : Tight pipettor.Controller.tick.Kinds.ps pipettor.Controller.tick.Kinds.r pipettor.Controller.tick.Reads.Learnt
 pipettor-Controller-tick κs args z z′ ws ws′ p q = result p q

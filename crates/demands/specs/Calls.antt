@@ -2,6 +2,7 @@
 use Prim.Native.Nat.{ℕ}
 use mathlib.Core.List.{List, [], _∷_, _++_}
 use lib.ListN.{replicate}
+use Rattle.command.specs.declared.refusal.Verdict.{Verdict}
 use Rattle.motion.specs.Events.{Event, Turn, quiet}
 use Rattle.machine.specs.declared.Device.{Device}
 use Rattle.machine.specs.declared.Used.{Used}
@@ -14,9 +15,16 @@ use Rattle.pipettor.specs.Byte.{byteOf}
 use Rattle.pipettor.specs.Listening.{listenedOf}
 use Rattle.pipettor.specs.Controller.{madeOf, tickedOf, stoppedOf, advancedOf, runOf}
 
--- a byte received, with the answer buffer lent for it; bytes handed over at once, as far as none completes a frame; a tick; the host's stop; so many ticks; a run of at most so many
+-- what a caller lends with a byte: the answer buffer
+pub record Lent : Type 0 where
+  pub buffer : List ℕ
+
+abbrev pub lent : List ℕ → Lent
+lent buf = record { buffer = buf }
+
+-- a byte received, with what is lent for it; bytes handed over at once, as far as none completes a frame; a tick; the host's stop; so many ticks; a run of at most so many
 pub data Call : Type 0 where
-  byte : ℕ → List ℕ → Call
+  byte : ℕ → Lent → Call
   listen : List ℕ → Call
   tick : Call
   stop : Call
@@ -34,27 +42,29 @@ ticksUsed S3 = 0
 
 -- the controller after a call, and what the call adds to the history
 unfoldable pub callOf : Call → Controller → Turn Controller
-callOf (byte b buf) k = let t = byteOf k b buf in record { next = t .next .reply .controller; events = t .events }
+callOf (byte b l) k = let t = byteOf k b (l .buffer) in record { next = t .next .reply .controller; events = t .events }
 callOf (listen bytes) k = quiet (listenedOf k bytes .controller)
-callOf tick k = tickedOf k
+callOf tick k = let t = tickedOf k in record { next = t .next .controller; events = t .events }
 callOf stop k = stoppedOf k
-callOf (advance n) k = record { next = advancedOf n k; events = ticksEvents n (k .device) }
-callOf (run n) k = let r = runOf n k in record { next = r .controller; events = ticksEvents (ticksUsed (r .used)) (k .device) }
+callOf (advance n) k = record { next = advancedOf n k .controller; events = ticksEvents n (k .device) }
+callOf (run n) k = let r = runOf n k in record { next = r .ticked .controller; events = ticksEvents (ticksUsed (r .used)) (k .device) }
 
--- what a call hands back beside the controller: what a byte says, with the buffer afterwards; how many bytes were taken; how many ticks a run used
+-- what a call hands back beside the controller: what a byte says, with what was lent as it is left; how many bytes were taken;
+-- why a run fails in ticks, if it does; that, and how many ticks a run used
 pub data Answered : Type 0 where
-  said : Said → List ℕ → Answered
+  said : Said → Lent → Answered
   taken : ℕ → Answered
-  used : Used → Answered
+  failed : Verdict → Answered
+  used : Verdict → Used → Answered
   nothing : Answered
 
 unfoldable pub answerOf : Call → Controller → Answered
-answerOf (byte b buf) k = let a = byteOf k b buf .next in said (a .reply .said) (a .buffer)
+answerOf (byte b l) k = let a = byteOf k b (l .buffer) .next in said (a .reply .said) (lent (a .buffer))
 answerOf (listen bytes) k = taken (listenedOf k bytes .n)
-answerOf tick k = nothing
+answerOf tick k = failed (tickedOf k .next .failed)
 answerOf stop k = nothing
-answerOf (advance n) k = nothing
-answerOf (run n) k = used (runOf n k .used)
+answerOf (advance n) k = failed (advancedOf n k .failed)
+answerOf (run n) k = let r = runOf n k in used (r .ticked .failed) (r .used)
 
 -- calls, first to last: the controller they leave, all that they add to the history, and all that they hand back
 unfoldable pub afterOf : List Call → Controller → Controller

@@ -6,47 +6,53 @@ use Rattle.pipettor.specs.declared.address.Address.{Address}
 use Rattle.pipettor.specs.declared.Controller.{Controller}
 use Rattle.pipettor.specs.declared.Reply.{Reply}
 use Rattle.pipettor.specs.declared.Listened.{Listened}
+use Rattle.pipettor.specs.declared.Ticked.{Ticked}
 use Rattle.pipettor.specs.declared.Ran.{Ran}
 use Rattle.pipettor.specs.Valid.{Valid}
 use Rattle.pipettor.specs.Byte as Byte
-use Rattle.pipettor.specs.Byte.{After, byteOf}
+use Rattle.pipettor.specs.Byte.{byteOf}
 use Rattle.pipettor.specs.Listening.{listenedOf}
 use Rattle.pipettor.specs.Controller.{madeOf, tickedOf, stoppedOf, advancedOf, runOf}
-use Rattle.demands.specs.Calls.{Call, byte, listen, tick, stop, advance, run, Answered, said, taken, used, nothing}
+use Rattle.demands.specs.Calls.{Lent, Call, byte, listen, tick, stop, advance, run, Answered, said, taken, failed, used, nothing}
 
 -- what each method's `ensures` says of its result, and of the answer buffer afterwards; the one `requires` of byte, tick, advance and run is `Valid`
 abbrev pub FreshEnsures : Address → Controller → Type 0
 FreshEnsures a r = r ≡ madeOf a .next
 
-abbrev pub ByteEnsures : Controller → ℕ → List ℕ → Reply → List ℕ → Type 0
-ByteEnsures k b before r after = Byte.after r after ≡ byteOf k b before .next
+abbrev pub ByteEnsures : Controller → ℕ → Lent → Reply → Lent → Type 0
+ByteEnsures k b before r after = Byte.after r (after .buffer) ≡ byteOf k b (before .buffer) .next
 
 abbrev pub ListenEnsures : Controller → List ℕ → Listened → Type 0
 ListenEnsures k bytes r = r ≡ listenedOf k bytes
 
-abbrev pub TickEnsures : Controller → Controller → Type 0
+abbrev pub TickEnsures : Controller → Ticked → Type 0
 TickEnsures k r = r ≡ tickedOf k .next
 
 abbrev pub StopEnsures : Controller → Controller → Type 0
 StopEnsures k r = r ≡ stoppedOf k .next
 
-abbrev pub AdvanceEnsures : Controller → ℕ → Controller → Type 0
+abbrev pub AdvanceEnsures : Controller → ℕ → Ticked → Type 0
 AdvanceEnsures k n r = r ≡ advancedOf n k
 
 abbrev pub RunEnsures : Controller → ℕ → Ran → Type 0
 RunEnsures k n r = r ≡ runOf n k
 
--- any program with these methods; a byte's is handed the buffer and leaves another.
+-- what a byte's method hands back, with what was lent as it is left
+pub record Spoken : Type 0 where
+  pub reply : Reply
+  pub left : Lent
+
+-- any program with these methods.
 -- Its types may hold only some controllers, and take only some arguments (a byte below 256, and so on)
 pub record Program : Type 1 where
   pub Holds : Controller → Type 0
   pub Takes : Call → Type 0
   pub fresh : Address → Controller
-  pub byte : Controller → ℕ → List ℕ → After
+  pub byte : Controller → ℕ → Lent → Spoken
   pub listen : Controller → List ℕ → Listened
-  pub tick : Controller → Controller
+  pub tick : Controller → Ticked
   pub stop : Controller → Controller
-  pub advance : Controller → ℕ → Controller
+  pub advance : Controller → ℕ → Ticked
   pub run : Controller → ℕ → Ran
 
 -- what it makes of a call: the controller that is left, and what is handed back
@@ -55,17 +61,17 @@ pub record Made : Type 0 where
   pub answer : Answered
 
 unfoldable pub makes : Program → Call → Controller → Made
-makes p (byte b buf) k = let r = p .byte k b buf in record { controller = r .reply .controller; answer = said (r .reply .said) (r .buffer) }
+makes p (byte b l) k = let r = p .byte k b l in record { controller = r .reply .controller; answer = said (r .reply .said) (r .left) }
 makes p (listen bytes) k = let r = p .listen k bytes in record { controller = r .controller; answer = taken (r .n) }
-makes p tick k = record { controller = p .tick k; answer = nothing }
+makes p tick k = let r = p .tick k in record { controller = r .controller; answer = failed (r .failed) }
 makes p stop k = record { controller = p .stop k; answer = nothing }
-makes p (advance n) k = record { controller = p .advance k n; answer = nothing }
-makes p (run n) k = let r = p .run k n in record { controller = r .controller; answer = used (r .used) }
+makes p (advance n) k = let r = p .advance k n in record { controller = r .controller; answer = failed (r .failed) }
+makes p (run n) k = let r = p .run k n in record { controller = r .ticked .controller; answer = used (r .ticked .failed) (r .used) }
 
 -- it meets the contracts wherever their premise holds, and what it makes its types hold
 pub record Meets (p : Program) : Type 0 where
   pub fresh : (a : Address) → FreshEnsures a (p .fresh a)
-  pub byte : (k : Controller) (b : ℕ) (buf : List ℕ) → p .Holds k → p .Takes (byte b buf) → Valid k → ByteEnsures k b buf (p .byte k b buf .reply) (p .byte k b buf .buffer)
+  pub byte : (k : Controller) (b : ℕ) (l : Lent) → p .Holds k → p .Takes (byte b l) → Valid k → ByteEnsures k b l (p .byte k b l .reply) (p .byte k b l .left)
   pub listen : (k : Controller) (bytes : List ℕ) → p .Holds k → p .Takes (listen bytes) → ListenEnsures k bytes (p .listen k bytes)
   pub tick : (k : Controller) → p .Holds k → p .Takes tick → Valid k → TickEnsures k (p .tick k)
   pub stop : (k : Controller) → p .Holds k → p .Takes stop → StopEnsures k (p .stop k)

@@ -7,13 +7,13 @@ use mathlib.Core.List.{List, [], _∷_, _++_}
 use lib.ListN.{length, drop}
 use Rattle.basics.specs.Bytes.{every}
 use Rattle.settings.specs.declared.Volume.{Volume}
+use Rattle.command.specs.declared.refusal.Verdict.the-variants.{Fine}
 use Rattle.line.specs.Wire.{dataByte}
 use Rattle.motion.specs.declared.Activity.{Activity}
 use Rattle.motion.specs.declared.Activity.the-variants.{Between}
 use Rattle.motion.specs.Events.{quiet, start, volume}
 use Rattle.buffer.specs.declared.course.State.the-variants.{Empty, Running}
 use Rattle.machine.specs.declared.Used.the-variants.{Ticks, S3}
-use Rattle.machine.specs.Run.{readyOf}
 use Rattle.machine.specs.Refusals.{Exactly}
 use Rattle.machine.specs.History.{sumOf, IsSum, StandsBy, moving}
 use Rattle.machine.specs.OnCourse as OnCourse
@@ -28,7 +28,7 @@ use Rattle.pipettor.specs.Address.{letterOf, addressOf}
 use Rattle.pipettor.specs.Valid.{Valid}
 use Rattle.pipettor.specs.Byte as Byte
 use Rattle.pipettor.specs.Byte.{byteOf}
-use Rattle.pipettor.specs.Controller.{tickedOf, advancedOf, runOf}
+use Rattle.pipettor.specs.Controller.{tickedOf, advancedOf, runOf, readyIs}
 use Rattle.demands.specs.Calls.{Call, after, history, answers}
 use Rattle.demands.specs.Frames.{frameSeen, Treated, Hears, frameAfter, ExchangesFrame}
 use Rattle.demands.specs.Contracts.{Program, Meets, TakesAll, leftBy, answeredBy}
@@ -36,10 +36,10 @@ use Rattle.demands.specs.Contracts.{Program, Meets, TakesAll, leftBy, an
 -- 1. Every call is answered, and refuses as 01's table says.
 -- a run's count of ticks: no more than allowed, not ready before so many, and ready after them where fewer than allowed are used
 pub record Counted (n : ℕ) (k : Controller) (count : ℕ) : Type 0 where
-  pub run : runOf n k ≡ record { controller = advancedOf count k; used = Ticks count }
+  pub run : runOf n k ≡ record { ticked = advancedOf count k; used = Ticks count }
   pub within : count ≤ n
-  pub busy-before : (i : ℕ) → i < count → readyOf (advancedOf i k .device .core) ≡ false
-  pub ready-after : count < n → readyOf (advancedOf count k .device .core) ≡ true
+  pub busy-before : (i : ℕ) → i < count → readyIs (advancedOf i k .controller) ≡ false
+  pub ready-after : count < n → readyIs (advancedOf count k .controller) ≡ true
 
 -- what a byte leaves of the buffer: "A silent byte and an S refusal write nothing to the answer buffer. Bytes after an answer's end stay as they were."
 abbrev pub Written : Said → List ℕ → List ℕ → Type 0
@@ -58,7 +58,7 @@ pub record Answers (k : Controller) : Type 0 where
   -- the bytes of a frame to us, whatever its data: it gets each number exactly where 01's table gives it, and leaves what the table says
   pub a-frame-is-treated-by-the-table : (ds buf : List ℕ) → every dataByte ds ≡ true → 32 ≤ length buf → Treated ds (k .address) (k .device) buf (frameSeen k ds buf)
   -- "S3: more than 60000 ticks asked of a run: nothing changed"
-  pub a-long-run-is-S3 : (n : ℕ) → 60000 < n → runOf n k ≡ record { controller = k; used = S3 }
+  pub a-long-run-is-S3 : (n : ℕ) → 60000 < n → runOf n k ≡ record { ticked = record { controller = k; failed = Fine }; used = S3 }
   -- any other is counted: "the answer says how many ticks it used"
   pub a-run-counts-its-ticks : (n : ℕ) → n ≤ 60000 → (count : ℕ) × Counted n k count
   -- no tick meets a command that doesn't read, nor a fifth loop, nor a G whose g isn't the innermost that the run holds open
@@ -66,7 +66,7 @@ pub record Answers (k : Controller) : Type 0 where
   -- a tick in which a run fails takes A, P or D, and fails by 7 where the plunger is not initialised, else by 3 for a goal outside travel, and in no other way;
   -- it sets the last error, erases the text, and changes nothing else
   pub a-run-fails-by-7-or-3 :
-      (doing : Activity) → k .device .core .course .state ≡ Running doing → tickedOf k .next .device .core .course .state ≡ Empty →
+      (doing : Activity) → k .device .core .course .state ≡ Running doing → tickedOf k .next .controller .device .core .course .state ≡ Empty →
       Fault (k .device .text) (k .device .core)
 
 -- making: "Our address is one of `1` to `9`"; "S2: address outside 1 to 9 at making: no controller is made"

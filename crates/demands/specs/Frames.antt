@@ -15,11 +15,11 @@ use Rattle.pipettor.specs.declared.Controller.{Controller}
 use Rattle.pipettor.specs.declared.Said.{Said}
 use Rattle.pipettor.specs.declared.Said.the-variants.{Silent}
 use Rattle.pipettor.specs.Address.{letterOf}
-use Rattle.pipettor.specs.Byte.{byteOf}
-use Rattle.frames.specs.Frame.{Exchange, addedOf, exchangeOf, Dialogue, givenOf, ToUs, Unheeded, Others}
+use Rattle.pipettor.specs.Byte.{Exchange, byteOf}
+use Rattle.frames.specs.Frame.{addedOf, exchangeOf, Dialogue, givenOf, ToUs, Unheeded, Others}
 use Rattle.frames.specs.Refused.{refusalOf, isReport, Replied, Refused, Unchanged, Known, WrongLetter, WrongNumber, NothingNow, TooMuchNow}
 use Rattle.frames.specs.Listening.{ByteByByte}
-use Rattle.demands.specs.Calls.{Call, byte, Answered, said, taken, used, nothing, afterOf, eventsOf, answersOf, after, history, answers}
+use Rattle.demands.specs.Calls.{lent, Call, byte, Answered, said, taken, failed, used, nothing, afterOf, eventsOf, answersOf, after, history, answers}
 use Rattle.demands.specs.Contracts.{Program, leftBy, answeredBy}
 
 -- what is seen of bytes once all are given: the device, what the last one says, and the buffer; with what they add to the history
@@ -73,21 +73,23 @@ pub record Hears (k : Controller) (buf : List ℕ) : Type 0 where
 -- the calls that give bytes, the buffer lent for each as the one before left it
 unfoldable pub giving : Controller → List ℕ → List ℕ → List Call
 giving k [] buf = []
-giving k (b ∷ bs) buf = let r = byteOf k b buf .next in byte b buf ∷ giving (r .reply .controller) bs (r .buffer)
+giving k (b ∷ bs) buf = let r = byteOf k b buf .next in byte b (lent buf) ∷ giving (r .reply .controller) bs (r .buffer)
 
 -- what was said among what calls handed back, and how a buffer is left
 abbrev pub spoken : List Answered → List Said
 spoken [] = []
 spoken (said s buf ∷ l) = s ∷ spoken l
 spoken (taken n ∷ l) = spoken l
-spoken (used u ∷ l) = spoken l
+spoken (failed v ∷ l) = spoken l
+spoken (used v u ∷ l) = spoken l
 spoken (nothing ∷ l) = spoken l
 
 abbrev pub lentLast : List ℕ → List Answered → List ℕ
 lentLast buf [] = buf
-lentLast buf (said s left ∷ l) = lentLast left l
+lentLast buf (said s left ∷ l) = lentLast (left .buffer) l
 lentLast buf (taken n ∷ l) = lentLast buf l
-lentLast buf (used u ∷ l) = lentLast buf l
+lentLast buf (failed v ∷ l) = lentLast buf l
+lentLast buf (used v u ∷ l) = lentLast buf l
 lentLast buf (nothing ∷ l) = lentLast buf l
 
 -- these calls are the dialogue of the bytes given

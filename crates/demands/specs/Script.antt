@@ -14,7 +14,7 @@ use Rattle.pipettor.specs.declared.Controller.{Controller}
 use Rattle.pipettor.specs.declared.Said.{Said}
 use Rattle.pipettor.specs.declared.Said.the-variants.{Silent, Answer, S1}
 use Rattle.demands.specs.Calls as Calls
-use Rattle.demands.specs.Calls.{Call, byte, advance, run, Answered, said, taken, used, nothing}
+use Rattle.demands.specs.Calls.{lent, Call, byte, advance, run, Answered, said, taken, failed, used, nothing}
 use Rattle.demands.specs.Contracts.{Program, TakesAll, leftBy, answeredBy}
 
 -- a frame to address 1 and what it answers, status byte and data; so many ticks, and where the plunger and the exact position then are;
@@ -31,7 +31,7 @@ bytes (c before s) = code c ∷ bytes s
 
 -- its calls: byte after byte, each with a buffer of 32 bytes lent; ticks; a run
 abbrev pub callsOf : Line → List Call
-callsOf (text answers reply) = map (λ (b : ℕ). byte b (replicate 32 0)) (framed 49 (bytes text))
+callsOf (text answers reply) = map (λ (b : ℕ). byte b (lent (replicate 32 0))) (framed 49 (bytes text))
 callsOf (n ticks place exact millionths) = advance n ∷ []
 callsOf (n run-uses count) = run n ∷ []
 
@@ -42,10 +42,11 @@ dataIn (Answer n) buf = take (n - 5) (drop 2 buf)
 dataIn S1 buf = []
 
 abbrev pub dataOf : Answered → List ℕ
-dataOf (said s buf) = dataIn s buf
+dataOf (said s l) = dataIn s (l .buffer)
 dataOf (taken n) = n ∷ []
-dataOf (used (Ticks n)) = n ∷ []
-dataOf (used S3) = []
+dataOf (failed v) = []
+dataOf (used v (Ticks n)) = n ∷ []
+dataOf (used v S3) = []
 dataOf nothing = []
 
 abbrev pub lastOf : List Answered → List ℕ

@@ -12,9 +12,9 @@ use Rattle.pipettor.specs.declared.Controller.{Controller}
 use Rattle.pipettor.specs.declared.Said.the-variants.{Silent}
 use Rattle.pipettor.specs.declared.acting.Got.the-variants as G
 use Rattle.pipettor.specs.Address.{letterOf}
-use Rattle.pipettor.specs.Byte.{after, reply, gotOf, squeezedOf, taskOf, sizeOf, taskCode, taskDone, taskText, outcomeOf, saidOf, writtenOf, heardOf, byteOf}
+use Rattle.pipettor.specs.Byte.{after, reply, gotOf, squeezedOf, taskOf, sizeOf, performedOf, outcomeOf, saidOf, writtenOf, dealtOf, heardOf, byteOf}
 use Rattle.pipettor.proofs.Bytes.{kept-length, squeezed-length}
-use Rattle.frames.specs.Frame.{doesOf, Dialogue, givenOf, Other, Others}
+use Rattle.frames.specs.Frame.{Dialogue, givenOf, Other, Others}
 
 -- the receiver of a controller, and a controller with another
 abbrev pub receiver : Controller → Received
@@ -69,19 +69,19 @@ module _ (k : Controller) (b : ℕ) (buf : List ℕ) (long : 32 ≤ length buf) 
       let frame = keepOf (k .frame) (h .deed) b in
       let got = gotOf ours (h .deed) frame in
       let squeezed = squeezedOf ours (h .deed) frame in
-      let e = doesOf got (take (sizeOf got) squeezed) (k .address) (k .device) buf in
+      let e = dealtOf got (take (sizeOf got) squeezed) (k .address) (k .device) buf in
       record {
         next = after (reply (record { address = k .address; line = h .line; frame = squeezed; device = e .next .device }) (e .next .said)) (e .next .buffer);
         events = e .events;
       })
-  unfolding byteOf heardOf doesOf
+  unfolding byteOf heardOf
   byte-does = rw (le-ltb (length buf) 32 long)
 
   pub byte-frame : length (byteOf k b buf .next .reply .controller .frame) ≡ length (k .frame)
   byte-frame = rw byte-does (squeezed-length _ _ _ ∙ kept-length (k .frame) _ b)
 
   pub byte-other : Other (letterOf (k .address)) (hearOf (k .line) b .deed) → byteOf k b buf ≡ quiet (after (reply (hearing k (hears (receiver k) b)) Silent) buf)
-  unfolding doesOf hears taskOf taskCode taskDone taskText outcomeOf saidOf writtenOf
+  unfolding dealtOf hears taskOf performedOf outcomeOf saidOf writtenOf
   byte-other h =
       let f = keepOf (k .frame) (hearOf (k .line) b .deed) b in
       byte-does ∙ rw (got-none (letterOf (k .address)) (hearOf (k .line) b .deed) f h, squeezed-none (letterOf (k .address)) (hearOf (k .line) b .deed) f h)

@@ -23,7 +23,7 @@ use Rattle.pipettor.specs.declared.acting.Outcome.the-variants.{Mute, Tell}
 use Rattle.pipettor.specs.declared.Controller.{Controller}
 use Rattle.pipettor.specs.declared.Said.the-variants.{S1}
 use Rattle.pipettor.specs.Address.{addressOf}
-use Rattle.pipettor.specs.Byte.{After, after, reply, saidOf, heardOf, byteOf}
+use Rattle.pipettor.specs.Byte.{After, after, reply, saidOf, dealtOf, heardOf, byteOf}
 use Rattle.pipettor.specs.Controller.{runOf}
 
 -- what is heard is never answered with S1
@@ -35,7 +35,7 @@ never-s1 (Tell report code) ready e = let z : _≡_ {A = ℕ} 0 1 = cc in absurd
 -- "S1: answer buffer lent is shorter than 32 bytes: controller and buffer unchanged"
 module _ (k : Controller) (b : ℕ) (buf : List ℕ) where
   pub a-short-buffer-is-s1 : Exactly (byteOf k b buf .next .reply .said ≡ S1) (length buf < 32)
-  unfolding byteOf heardOf
+  unfolding byteOf heardOf dealtOf
   a-short-buffer-is-s1 = record {
     only = by (λ (t : Turn After). t .next .reply .said ≡ S1 → length buf < 32) (ltb (length buf) 32) (λ h e. ltb-true (length buf) 32 h) (λ h e. never-s1 _ _ e);
     always = λ h. rw (lt-ltb (length buf) 32 h);
@@ -92,6 +92,6 @@ module _ (n : ℕ) (k : Controller) where
     always = λ h. rw (lt-ltb 60000 n h);
   }
 
-  pub s3-changes-nothing : 60000 < n → runOf n k .controller ≡ k
+  pub s3-changes-nothing : 60000 < n → runOf n k .ticked .controller ≡ k
   unfolding runOf ranOf
   s3-changes-nothing h = rw (lt-ltb 60000 n h)

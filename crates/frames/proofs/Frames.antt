@@ -24,8 +24,8 @@ use Rattle.pipettor.specs.declared.address.Address.the-variants.{One, Two, Thre
 use Rattle.pipettor.specs.declared.acting.Got.the-variants as G
 use Rattle.pipettor.specs.declared.Controller.{Controller}
 use Rattle.pipettor.specs.Address.{letterOf}
-use Rattle.pipettor.specs.Byte.{After, reply, fetchedOf, squeezedIn, gotOf, squeezedOf, sizeOf, byteOf}
-use Rattle.frames.specs.Frame.{Exchange, addedOf, exchangeOf, givenOf, ToUs, Unheeded, Others}
+use Rattle.pipettor.specs.Byte.{After, reply, fetchedOf, squeezedIn, gotOf, squeezedOf, sizeOf, Exchange, byteOf}
+use Rattle.frames.specs.Frame.{addedOf, exchangeOf, givenOf, ToUs, Unheeded, Others}
 use Rattle.frames.proofs.Bytes.{receiver, hearing, given-last, byte-does, byte-frame, given-others}
 
 -- a text is no longer than the data that hold it

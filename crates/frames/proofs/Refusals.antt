@@ -5,12 +5,12 @@ use mathlib.Core.Bool.{Bool, true, false, false≢true}
 use mathlib.Core.List.{List}
 use Prim.Native.Nat.{ℕ}
 use native.Mathlib.Omega.{arith}
-use borrow.Author.Tests.{ne-eqb, eq-eqb}
 use lib.Dec.{eqb}
 use lib.ListN.{length}
 use Rattle.basics.specs.Choice.{if_then_else_}
 use Rattle.basics.specs.Lay.{over}
-use Rattle.command.specs.declared.Refusal.the-variants.{Letter, Operand}
+use Rattle.command.specs.declared.refusal.Misread.the-variants.{Letter, Operand}
+use Rattle.command.proofs.Numbers.{zero-is-fine, another-has-a-reason}
 use Rattle.text.specs.declared.Control.{Control}
 use Rattle.text.specs.declared.Control.the-variants.{Run, Stop, Again, Clear, Reset}
 use Rattle.text.specs.declared.Data.{Data}
@@ -19,22 +19,25 @@ use Rattle.text.specs.Data.{receivedOf}
 use Rattle.line.specs.Answer as Line
 use Rattle.line.specs.Answer.{statusOf}
 use Rattle.motion.specs.Events.{Turn}
-use Rattle.buffer.specs.declared.course.State.{State}
+use Rattle.buffer.specs.declared.course.Column.{Column}
+use Rattle.buffer.specs.Course.{columnOf}
 use Rattle.machine.specs.declared.Device.{Device}
 use Rattle.buffer.specs.declared.order.Action.{Action}
 use Rattle.buffer.specs.declared.order.Action.the-variants as A
 use Rattle.machine.specs.Run.{readyOf}
-use Rattle.buffer.specs.Order.{codeOf, storedBy}
-use Rattle.machine.specs.Act.{actedOf}
-use Rattle.machine.specs.Refusals.{answerOf, NothingToRun, run-empty, run-done, again-empty, again-stored, again-stopped, again-delaying, Exactly}
+use Rattle.buffer.specs.Order.{storedBy}
+use Rattle.machine.specs.Act.{actedOf, actOf}
+use Rattle.machine.specs.Refusals as Buffer
+use Rattle.machine.specs.Refusals.{verdictFor, NothingToRun, run-empty, run-done, again-empty, again-stored, again-stopped, again-delaying, Exactly}
 use Rattle.machine.proofs.Refusals.{nothing-to-run-is-14, busy-or-too-long-is-15, wrong-loops-are-3, no-other-refusal}
 use Rattle.pipettor.specs.declared.address.Address.{Address}
 use Rattle.reports.specs.declared.Told.{Told}
 use Rattle.reports.specs.declared.Told.the-variants.{Says, No}
 use Rattle.pipettor.specs.declared.acting.Got.the-variants as G
+use Rattle.pipettor.specs.declared.acting.Task.the-variants as T
 use Rattle.pipettor.specs.declared.Said.the-variants.{Answer}
-use Rattle.pipettor.specs.Byte.{toldOf, actionOf, stringAction, taskOf, taskCode, taskDone, taskText, outcomeOf, toldCode, saidOf, writtenOf}
-use Rattle.frames.specs.Frame.{Exchange, doesOf, addedOf, exchangeOf}
+use Rattle.pipettor.specs.Byte.{toldOf, actionOf, stringAction, taskOf, performedOf, outcomeOf, toldCode, saidOf, writtenOf, Exchange, dealtOf}
+use Rattle.frames.specs.Frame.{addedOf, exchangeOf}
 use Rattle.frames.specs.Refused.{toldNumber, toldReport, numberFor, refusalOf, isReport, Replied, Refused, Unchanged, Known, WrongLetter, letter, WrongNumber, operand, report, report-number, loops-of-control, loops-of-text, TooMuchNow, too-many-bytes, control, text, NothingNow, nothing}
 
 -- an answered report carries the last error, and one that is refused 3
@@ -53,8 +56,8 @@ module _ (error : ℕ) (ready : Bool) where
   told-written No buf = refl
 
 -- the buffer never says 2, and 14 never of a string
-never-2 : {G : Type 0} (added : List ℕ) (d : Device) (x : Action) → answerOf x added (d .text) (d .core) ≡ 2 → G
-never-2 {G} added d x e = go (no-other-refusal x added (d .text) (d .core) 2 e)
+never-2 : {G : Type 0} (added : List ℕ) (d : Device) (x : Action) → Buffer.numberFor x added d ≡ 2 → G
+never-2 {G} added d x e = go (rw e at (no-other-refusal x added d))
   where
     go : (_≡_ {A = ℕ} 2 0) ⊎ (_≡_ {A = ℕ} 2 3) ⊎ (_≡_ {A = ℕ} 2 14) ⊎ (_≡_ {A = ℕ} 2 15) → G
     go (inl h) = absurd (omega arith)
@@ -71,15 +74,15 @@ RunOrAgain A.Stop = ⊥
 RunOrAgain A.Clear = ⊥
 RunOrAgain A.Reset = ⊥
 
-run-or-again : (x : Action) (s : State) → NothingToRun x s → RunOrAgain x
+run-or-again : (x : Action) (s : Column) → NothingToRun x s → RunOrAgain x
 run-or-again x s run-empty = tt
 run-or-again x s run-done = tt
 run-or-again x s again-empty = tt
 run-or-again x s again-stored = tt
 run-or-again x s again-stopped = tt
-run-or-again x s (again-delaying k) = tt
+run-or-again x s again-delaying = tt
 
-no-string : (run : Bool) (s : State) → NothingToRun (stringAction run) s → ⊥
+no-string : (run : Bool) (s : Column) → NothingToRun (stringAction run) s → ⊥
 no-string true s h = run-or-again A.Launch s h
 no-string false s h = run-or-again A.Store s h
 
@@ -108,10 +111,10 @@ module _ (added : List ℕ) (a : Address) (d : Device) where
 
   module _ (buf : List ℕ) where
     abbrev does : Data → Turn Exchange
-    does x = doesOf (G.Data x) added a d buf
+    does x = dealtOf (G.Data x) added a d buf
 
     replied : (x : Data) → Replied x (number x) a d buf (does x)
-    unfolding doesOf numberFor taskOf taskCode taskDone taskText codeOf outcomeOf saidOf writtenOf
+    unfolding dealtOf numberFor taskOf performedOf actOf outcomeOf saidOf writtenOf
     replied (D.Report q) = record {
       said = told-said (d .core .course .error) (readyOf (d .core)) (toldOf q a (d .core));
       buffer = told-written (d .core .course .error) (readyOf (d .core)) (toldOf q a (d .core)) buf;
@@ -123,22 +126,24 @@ module _ (added : List ℕ) (a : Address) (d : Device) where
     replied D.TooLong = record { said = refl; buffer = refl }
 
     -- what is left behind
+    left-by : (x : Action) (y : Data) → isReport y ≡ false → taskOf (G.Data y) ≡ T.Act x → (Buffer.numberFor x added d ≡ 0 → ⊥) → Refused y (Buffer.numberFor x added d) d (does y)
+    unfolding dealtOf performedOf actOf actedOf storedBy
+    left-by x y r is h =
+        let (why, e) = another-has-a-reason (verdictFor x added d) h in
+        record { text = rw (is, e); core = rw (is, e, r); events = rw (is, e) }
+
     left : (x : Data) → (number x ≡ 0 → ⊥) → Refused x (number x) d (does x)
-    unfolding doesOf numberFor taskOf taskCode taskDone taskText codeOf actedOf storedBy
+    unfolding dealtOf numberFor taskOf performedOf
     left (D.Report q) h = record { text = refl; core = refl; events = refl }
     left D.WrongReport h = record { text = refl; core = refl; events = refl }
-    left (D.Control c) h =
-        let z = ne-eqb (answerOf (actionOf c) added (d .text) (d .core)) 0 h in
-        record { text = rw z; core = rw z; events = rw z }
-    left (D.Text n run) h =
-        let z = ne-eqb (answerOf (stringAction run) added (d .text) (d .core)) 0 h in
-        record { text = rw z; core = rw z; events = rw z }
+    left (D.Control c) h = left-by (actionOf c) (D.Control c) refl refl h
+    left (D.Text n run) h = left-by (stringAction run) (D.Text n run) refl refl h
     left (D.Wrong (Letter place)) h = record { text = refl; core = refl; events = refl }
     left (D.Wrong (Operand place)) h = record { text = refl; core = refl; events = refl }
     left D.TooLong h = record { text = refl; core = refl; events = refl }
 
     untouched : (x : Data) → isReport x ≡ true → Unchanged d (does x)
-    unfolding doesOf taskOf taskDone taskText
+    unfolding dealtOf taskOf performedOf
     untouched (D.Report q) h = record { device = refl; events = refl }
     untouched D.WrongReport h = record { device = refl; events = refl }
     untouched (D.Control c) h = absurd (false≢true h)
@@ -146,12 +151,16 @@ module _ (added : List ℕ) (a : Address) (d : Device) where
     untouched (D.Wrong r) h = absurd (false≢true h)
     untouched D.TooLong h = absurd (false≢true h)
 
+    cleared-by : (x : Action) (y : Data) → taskOf (G.Data y) ≡ T.Act x → Buffer.numberFor x added d ≡ 0 → does y .next .device .core .course .error ≡ 0
+    unfolding dealtOf performedOf actOf actedOf
+    cleared-by x y is e = rw (is, zero-is-fine (verdictFor x added d) e)
+
     cleared : (x : Data) → isReport x ≡ false → number x ≡ 0 → does x .next .device .core .course .error ≡ 0
-    unfolding doesOf numberFor taskOf taskCode taskDone codeOf actedOf
+    unfolding numberFor taskOf
     cleared (D.Report q) h e = absurd (false≢true (sym h))
     cleared D.WrongReport h e = absurd (false≢true (sym h))
-    cleared (D.Control c) h e = rw (eq-eqb (answerOf (actionOf c) added (d .text) (d .core)) 0 e)
-    cleared (D.Text n run) h e = rw (eq-eqb (answerOf (stringAction run) added (d .text) (d .core)) 0 e)
+    cleared (D.Control c) h e = cleared-by (actionOf c) (D.Control c) refl e
+    cleared (D.Text n run) h e = cleared-by (stringAction run) (D.Text n run) refl e
     cleared (D.Wrong (Letter place)) h e = absurd (omega arith)
     cleared (D.Wrong (Operand place)) h e = absurd (omega arith)
     cleared D.TooLong h e = absurd (omega arith)
@@ -175,8 +184,8 @@ module _ (added : List ℕ) (a : Address) (d : Device) where
   unfolding numberFor
   only-3 (D.Report q) e = report-number q (refused-3 (toldOf q a (d .core)) e)
   only-3 D.WrongReport e = report
-  only-3 (D.Control c) e = loops-of-control c (wrong-loops-are-3 (actionOf c) added (d .text) (d .core) .only e)
-  only-3 (D.Text n run) e = loops-of-text n run (wrong-loops-are-3 (stringAction run) added (d .text) (d .core) .only e)
+  only-3 (D.Control c) e = loops-of-control c (wrong-loops-are-3 (actionOf c) added d .only e)
+  only-3 (D.Text n run) e = loops-of-text n run (wrong-loops-are-3 (stringAction run) added d .only e)
   only-3 (D.Wrong (Letter place)) e = absurd (omega arith)
   only-3 (D.Wrong (Operand place)) e = operand place
   only-3 D.TooLong e = absurd (omega arith)
@@ -186,29 +195,29 @@ module _ (added : List ℕ) (a : Address) (d : Device) where
   always-3 x (operand place) = refl
   always-3 x report = refl
   always-3 x (report-number q h) = rw h
-  always-3 x (loops-of-control c h) = wrong-loops-are-3 (actionOf c) added (d .text) (d .core) .always h
-  always-3 x (loops-of-text n run h) = wrong-loops-are-3 (stringAction run) added (d .text) (d .core) .always h
+  always-3 x (loops-of-control c h) = wrong-loops-are-3 (actionOf c) added d .always h
+  always-3 x (loops-of-text n run h) = wrong-loops-are-3 (stringAction run) added d .always h
 
   only-14 : (x : Data) → number x ≡ 14 → NothingNow (d .core .course .state) x
   unfolding numberFor
   only-14 (D.Report q) e = not-told 14 (toldOf q a (d .core)) e (λ h. omega arith) (λ h. omega arith)
   only-14 D.WrongReport e = absurd (omega arith)
-  only-14 (D.Control c) e = nothing c (nothing-to-run-is-14 (actionOf c) added (d .text) (d .core) .only e)
-  only-14 (D.Text n run) e = absurd (no-string run (d .core .course .state) (nothing-to-run-is-14 (stringAction run) added (d .text) (d .core) .only e))
+  only-14 (D.Control c) e = nothing c (nothing-to-run-is-14 (actionOf c) added d .only e)
+  only-14 (D.Text n run) e = absurd (no-string run (columnOf (d .core .course .state)) (nothing-to-run-is-14 (stringAction run) added d .only e))
   only-14 (D.Wrong (Letter place)) e = absurd (omega arith)
   only-14 (D.Wrong (Operand place)) e = absurd (omega arith)
   only-14 D.TooLong e = absurd (omega arith)
 
   always-14 : (x : Data) → NothingNow (d .core .course .state) x → number x ≡ 14
   unfolding numberFor
-  always-14 x (nothing c h) = nothing-to-run-is-14 (actionOf c) added (d .text) (d .core) .always h
+  always-14 x (nothing c h) = nothing-to-run-is-14 (actionOf c) added d .always h
 
   only-15 : (x : Data) → number x ≡ 15 → TooMuchNow a d added x
   unfolding numberFor
   only-15 (D.Report q) e = not-told 15 (toldOf q a (d .core)) e (λ h. omega arith) (λ h. omega arith)
   only-15 D.WrongReport e = absurd (omega arith)
-  only-15 (D.Control c) e = control c (busy-or-too-long-is-15 (actionOf c) added (d .text) (d .core) .only e)
-  only-15 (D.Text n run) e = text n run (busy-or-too-long-is-15 (stringAction run) added (d .text) (d .core) .only e)
+  only-15 (D.Control c) e = control c (busy-or-too-long-is-15 (actionOf c) added d .only e)
+  only-15 (D.Text n run) e = text n run (busy-or-too-long-is-15 (stringAction run) added d .only e)
   only-15 (D.Wrong (Letter place)) e = absurd (omega arith)
   only-15 (D.Wrong (Operand place)) e = absurd (omega arith)
   only-15 D.TooLong e = too-many-bytes
@@ -216,15 +225,15 @@ module _ (added : List ℕ) (a : Address) (d : Device) where
   always-15 : (x : Data) → TooMuchNow a d added x → number x ≡ 15
   unfolding numberFor
   always-15 x too-many-bytes = refl
-  always-15 x (control c h) = busy-or-too-long-is-15 (actionOf c) added (d .text) (d .core) .always h
-  always-15 x (text n run h) = busy-or-too-long-is-15 (stringAction run) added (d .text) (d .core) .always h
+  always-15 x (control c h) = busy-or-too-long-is-15 (actionOf c) added d .always h
+  always-15 x (text n run h) = busy-or-too-long-is-15 (stringAction run) added d .always h
 
   known : (x : Data) → Known (number x)
   unfolding numberFor
   known (D.Report q) = known-told (toldOf q a (d .core))
   known D.WrongReport = inr (inr (inl refl))
-  known (D.Control c) = known-buffer _ (no-other-refusal (actionOf c) added (d .text) (d .core) _ refl)
-  known (D.Text n run) = known-buffer _ (no-other-refusal (stringAction run) added (d .text) (d .core) _ refl)
+  known (D.Control c) = known-buffer _ (no-other-refusal (actionOf c) added d)
+  known (D.Text n run) = known-buffer _ (no-other-refusal (stringAction run) added d)
   known (D.Wrong (Letter place)) = inr (inl refl)
   known (D.Wrong (Operand place)) = inr (inr (inl refl))
   known D.TooLong = inr (inr (inr (inr refl)))

@@ -8,7 +8,7 @@ use lib.ListN.{length}
 use Rattle.basics.specs.Choice.{if_then_else_}
 use Rattle.basics.proofs.Choice.{by}
 use Rattle.operand.specs.Number.{numberOf}
-use Rattle.command.specs.declared.Refusal.{Refusal}
+use Rattle.command.specs.declared.refusal.Misread.{Misread}
 use Rattle.text.specs.declared.Question.{Question}
 use Rattle.text.specs.declared.Question.the-variants.{Query, Value, Address}
 use Rattle.text.specs.declared.Control.{Control}
@@ -29,7 +29,7 @@ pub data Read : Bool → Data → Type 0 where
   no-report : Read true D.WrongReport
   a-control : (c : Control) → Read false (D.Control c)
   a-text : (n : ℕ) (run : Bool) → Read false (D.Text n run)
-  no-text : (r : Refusal) → Read false (D.Wrong r)
+  no-text : (r : Misread) → Read false (D.Wrong r)
 
 pub read-as-said : (b : Bool) (x : Data) → Read b x → isReport x ≡ b
 read-as-said b x (a-report q) = refl

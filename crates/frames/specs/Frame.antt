@@ -3,7 +3,6 @@ use Prim.Native.Nat.{ℕ, _+_}
 use mathlib.Core.Path.{_≡_}
 use mathlib.Core.List.{List, [], _∷_, _++_}
 use lib.ListN.{length, take, replicate}
-use Rattle.text.specs.declared.Data.{Data}
 use Rattle.text.specs.Data.{spaceless, receivedOf}
 use Rattle.line.specs.declared.Deed.{Deed}
 use Rattle.line.specs.declared.Deed.the-variants as W
@@ -11,34 +10,13 @@ use Rattle.line.specs.declared.Line.the-variants.{Outside}
 use Rattle.line.specs.Wire.{framed}
 use Rattle.motion.specs.Events.{Event, Turn}
 use Rattle.machine.specs.declared.Device.{Device}
-use Rattle.machine.specs.Run.{readyOf}
-use Rattle.machine.specs.Device.{device}
 use Rattle.pipettor.specs.declared.address.Address.{Address}
-use Rattle.pipettor.specs.declared.acting.Got.{Got}
 use Rattle.pipettor.specs.declared.acting.Got.the-variants as G
 use Rattle.pipettor.specs.declared.Controller.{Controller}
 use Rattle.pipettor.specs.declared.Said.{Said}
 use Rattle.pipettor.specs.declared.Said.the-variants.{Silent}
 use Rattle.pipettor.specs.Address.{letterOf}
-use Rattle.pipettor.specs.Byte.{taskOf, sizeOf, taskCode, taskDone, taskText, outcomeOf, saidOf, writtenOf, byteOf}
-
--- what is left of a frame: the device, what was said, and the answer buffer
-pub record Exchange : Type 0 where
-  pub device : Device
-  pub said : Said
-  pub buffer : List ℕ
-
--- what was brought, with the characters that come with it, does to a device; "Ready or busy is taken after the frame has acted."
-unfoldable pub doesOf : Got → List ℕ → Address → Device → List ℕ → Turn Exchange
-doesOf got added a d buf =
-    let c = d .core in
-    let task = taskOf got (c .course .state) in
-    let code = taskCode task (take (c .course .len) (d .text)) added in
-    let turn = taskDone task code (sizeOf got) c in
-    let text = taskText task code (c .course .len) added (d .text) in
-    let outcome = outcomeOf got a code c in
-    let ready = readyOf (turn .next) in
-    record { next = record { device = device text (turn .next); said = saidOf outcome ready; buffer = writtenOf outcome ready buf }; events = turn .events }
+use Rattle.pipettor.specs.Byte.{sizeOf, Exchange, dealtOf, byteOf}
 
 -- the characters that come with data: "without spaces and the final R"
 unfoldable pub addedOf : List ℕ → List ℕ
@@ -46,7 +24,7 @@ addedOf ds = take (sizeOf (G.Data (receivedOf ds))) (spaceless ds)
 
 -- a whole frame to us with these data
 unfoldable pub exchangeOf : List ℕ → Address → Device → List ℕ → Turn Exchange
-exchangeOf ds a d buf = doesOf (G.Data (receivedOf ds)) (addedOf ds) a d buf
+exchangeOf ds a d buf = dealtOf (G.Data (receivedOf ds)) (addedOf ds) a d buf
 
 -- bytes given one after the other: the controller afterwards, what each byte was answered, the buffer lent, and the history
 pub record Dialogue : Type 0 where

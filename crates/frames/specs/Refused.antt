@@ -5,11 +5,12 @@ use mathlib.Core.Logic.{_⊎_}
 use mathlib.Core.Bool.{Bool, true, false, _&&_, _||_}
 use mathlib.Core.List.{List, [], _∷_}
 use lib.Dec.{eqb}
-use lib.ListN.{length, take}
+use lib.ListN.{length}
 use Rattle.basics.specs.Choice.{if_then_else_}
 use Rattle.basics.specs.Lay.{over}
-use Rattle.command.specs.declared.Refusal.the-variants.{Letter, Operand}
-use Rattle.command.specs.Command.{refusalNumber}
+use Rattle.command.specs.declared.refusal.Misread.the-variants.{Letter, Operand}
+use Rattle.command.specs.declared.refusal.Refusal.the-variants as R
+use Rattle.command.specs.Numbers.{refusalNumber}
 use Rattle.text.specs.declared.Question.{Question}
 use Rattle.text.specs.declared.Control.{Control}
 use Rattle.text.specs.declared.Data.{Data}
@@ -20,32 +21,33 @@ use Rattle.line.specs.declared.Report.the-variants.{Nothing}
 use Rattle.line.specs.Answer.{statusOf, answerOf}
 use Rattle.motion.specs.Events.{Turn}
 use Rattle.buffer.specs.declared.course.State.{State}
+use Rattle.buffer.specs.Course.{columnOf}
 use Rattle.machine.specs.declared.step.Core.{Core}
 use Rattle.machine.specs.declared.Device.{Device}
 use Rattle.machine.specs.Run.{readyOf}
 use Rattle.machine.specs.Act.{coreError}
 use Rattle.machine.specs.Refusals as Buffer
-use Rattle.machine.specs.Refusals.{NothingToRun, TooMuch, WrongLoops}
+use Rattle.machine.specs.Refusals.{storedIn, NothingToRun, TooMuch, WrongLoops}
 use Rattle.pipettor.specs.declared.address.Address.{Address}
 use Rattle.reports.specs.declared.Told.{Told}
 use Rattle.reports.specs.declared.Told.the-variants.{Says, No}
 use Rattle.pipettor.specs.declared.Said.the-variants.{Answer}
-use Rattle.pipettor.specs.Byte.{toldOf, actionOf, stringAction}
-use Rattle.frames.specs.Frame.{Exchange, addedOf}
+use Rattle.pipettor.specs.Byte.{toldOf, actionOf, stringAction, Exchange}
+use Rattle.frames.specs.Frame.{addedOf}
 
 -- "Reports never change it; a refused report answers its own code 3 and changes nothing."
 abbrev pub toldNumber : Told → ℕ
 toldNumber (Says report) = 0
-toldNumber No = 3
+toldNumber No = refusalNumber R.Report
 
 -- 0 where data are accepted, and else the number they are refused with: too many (15), the first wrong place (2 or 3), then what the buffer says
 unfoldable pub numberFor : Data → List ℕ → Address → Device → ℕ
 numberFor D.TooLong added a d = 15
-numberFor (D.Wrong r) added a d = refusalNumber r
-numberFor D.WrongReport added a d = 3
+numberFor (D.Wrong m) added a d = refusalNumber (R.Misread m)
+numberFor D.WrongReport added a d = refusalNumber R.Report
 numberFor (D.Report q) added a d = toldNumber (toldOf q a (d .core))
-numberFor (D.Control c) added a d = Buffer.answerOf (actionOf c) added (d .text) (d .core)
-numberFor (D.Text n run) added a d = Buffer.answerOf (stringAction run) added (d .text) (d .core)
+numberFor (D.Control c) added a d = Buffer.numberFor (actionOf c) added d
+numberFor (D.Text n run) added a d = Buffer.numberFor (stringAction run) added d
 
 -- of a frame to us
 unfoldable pub refusalOf : List ℕ → Address → Device → ℕ
@@ -114,23 +116,20 @@ pub data WrongLetter : Data → Type 0 where
   letter : (place : ℕ) → WrongLetter (D.Wrong (Letter place))
 
 module _ (a : Address) (d : Device) (added : List ℕ) where
-  abbrev pub stored : List ℕ
-  stored = take (d .core .course .len) (d .text)
-
   -- 3: "operand, report number or loops wrong"
   pub data WrongNumber : Data → Type 0 where
     operand : (place : ℕ) → WrongNumber (D.Wrong (Operand place))
     report : WrongNumber D.WrongReport
     report-number : (q : Question) → toldOf q a (d .core) ≡ No → WrongNumber (D.Report q)
-    loops-of-control : (c : Control) → WrongLoops (actionOf c) (d .core .course .state) stored added → WrongNumber (D.Control c)
-    loops-of-text : (n : ℕ) (run : Bool) → WrongLoops (stringAction run) (d .core .course .state) stored added → WrongNumber (D.Text n run)
+    loops-of-control : (c : Control) → WrongLoops (actionOf c) (d .core .course .state) (storedIn d) added → WrongNumber (D.Control c)
+    loops-of-text : (n : ℕ) (run : Bool) → WrongLoops (stringAction run) (d .core .course .state) (storedIn d) added → WrongNumber (D.Text n run)
 
   -- 15: "data or text too long, or busy"
   pub data TooMuchNow : Data → Type 0 where
     too-many-bytes : TooMuchNow D.TooLong
-    control : (c : Control) → TooMuch (actionOf c) (d .core .course .state) stored added → TooMuchNow (D.Control c)
-    text : (n : ℕ) (run : Bool) → TooMuch (stringAction run) (d .core .course .state) stored added → TooMuchNow (D.Text n run)
+    control : (c : Control) → TooMuch (actionOf c) (d .core .course .state) (storedIn d) added → TooMuchNow (D.Control c)
+    text : (n : ℕ) (run : Bool) → TooMuch (stringAction run) (d .core .course .state) (storedIn d) added → TooMuchNow (D.Text n run)
 
 -- 14: "R or X with nothing to run"
 pub data NothingNow (s : State) : Data → Type 0 where
-  nothing : (c : Control) → NothingToRun (actionOf c) s → NothingNow s (D.Control c)
+  nothing : (c : Control) → NothingToRun (actionOf c) (columnOf s) → NothingNow s (D.Control c)

@@ -19,10 +19,10 @@ use Rattle.text.specs.Loops.{levelOf, levels, loopsOk}
 use Rattle.motion.specs.Events.{Event, start, volume}
 use Rattle.motion.specs.Motion as Motion
 use Rattle.buffer.specs.declared.order.Action.the-variants.{Launch}
-use Rattle.buffer.specs.Course.{reached, goneOn, halted}
+use Rattle.buffer.specs.Course.{reached, halted}
 use Rattle.machine.specs.Step as Step
-use Rattle.buffer.specs.Order.{orderOf, sized, codeOf, laidBy, storedBy}
-use Rattle.machine.specs.Act.{haltOf, stopOf, doneOf, actedOf, actOf, textOf}
+use Rattle.buffer.specs.Order.{cellOf, loopsBy, sized, verdictOf, laidBy, storedBy}
+use Rattle.machine.specs.Act.{haltOf, stopOf, changedOf, doneOf, actedOf, actOf}
 use Rattle.machine.specs.Device.{freshOf, tickOf, haltedOf}
 use Rattle.machine.specs.History.{Call, callOf, afterOf, eventsOf, after, history}
 use Rattle.machine.specs.History.Call.{tick, act, stop}
@@ -56,5 +56,5 @@ pub histories-move :
     ∷ shows 20 20175000 (start 0 ∷ start 0 ∷ start 40350000 ∷ nL 500 40350 false ∷ [])
     ∷ shows 80 80000000 (start 0 ∷ start 0 ∷ start 500000000 ∷ start 80000000 ∷ [])
     ∷ []
-unfolding digit every valueOf over fits laidIn within rateOf millionthsOf goalOf goneOf run rest digits decimalsOf followedOf numberOf behindComma pairOf letterOf allowed takenOf wholeOf nanolitresOf made both inUnit volumeOf compensationOf commandOf placed foundIn commandAt readFrom readOf levelOf levels loopsOk Motion.plungerOf Motion.homeOf Motion.within Motion.targetOf Motion.setOut Motion.aimed Motion.moveOf Motion.effectOf Motion.carried Motion.onwardOf Motion.cutOf Motion.freshBody reached goneOn Step.appliedOf Step.takenOf Step.carriedOn Step.activeOf Step.stepOf orderOf sized codeOf halted haltOf stopOf doneOf laidBy storedBy actedOf actOf textOf freshOf tickOf haltedOf callOf afterOf eventsOf after history
+unfolding digit every valueOf over fits laidIn within rateOf millionthsOf goalOf goneOf run rest digits decimalsOf followedOf numberOf behindComma pairOf letterOf allowed takenOf wholeOf nanolitresOf made both inUnit volumeOf compensationOf commandOf placed foundIn commandAt readFrom readOf levelOf levels loopsOk Motion.plungerOf Motion.homeOf Motion.within Motion.targetOf Motion.setOut Motion.aimed Motion.moveOf Motion.effectOf Motion.carried Motion.onwardOf Motion.cutOf Motion.freshBody reached Step.appliedOf Step.takenOf Step.carriedOn Step.runningOf Step.activeOf Step.stepOf cellOf loopsBy sized verdictOf halted haltOf stopOf changedOf doneOf laidBy storedBy actedOf actOf freshOf tickOf haltedOf callOf afterOf eventsOf after history
 histories-move = refl

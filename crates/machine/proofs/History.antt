@@ -8,6 +8,9 @@ use lib.Dec.{ltb}
 use lib.ListN.{replicate, length-replicate}
 use Rattle.basics.proofs.Choice.{by}
 use Rattle.settings.specs.Units.{Near}
+use Rattle.command.specs.declared.refusal.Verdict.{Verdict}
+use Rattle.command.specs.declared.refusal.Verdict.the-variants.{Fine}
+use Rattle.command.specs.Numbers.{firstOf}
 use Rattle.motion.specs.Events.{Event}
 use Rattle.motion.specs.Motion.{freshBody}
 use Rattle.motion.proofs.Keeps.{fresh-ok}
@@ -15,11 +18,12 @@ use Rattle.machine.specs.declared.Device.{Device}
 use Rattle.machine.specs.declared.Ran.{Ran}
 use Rattle.machine.specs.Run.{ticksOf, usedOf}
 use Rattle.machine.specs.Valid.{Ready}
-use Rattle.machine.specs.Device.{freshOf, tickOf, haltedOf, advanceOf, ranOf}
+use Rattle.machine.specs.Step.{around, stepped, fine, nextOf}
+use Rattle.machine.specs.Device.{device, freshOf, tickOf, haltedOf, advanceOf, ranOf}
 use Rattle.machine.specs.History.{Call, callOf, afterOf, eventsOf, after, history, Sum, sum, counted, addedUp, sumOf, IsSum, StandsBy, moving}
 use Rattle.machine.specs.History.Call.{tick, act, stop}
 use Rattle.machine.proofs.Keeps.{step-keeps}
-use Rattle.machine.proofs.KeepsActs.{act-keeps, stop-keeps, text-keeps-its-length}
+use Rattle.machine.proofs.KeepsActs.{act-keeps, stop-keeps}
 use Rattle.machine.proofs.Position.{CoreTold, at-rest, step-tells, act-tells, stop-tells}
 
 -- what every call keeps of a device, with the sum of its history
@@ -31,7 +35,7 @@ fresh-is-sound : Sound (freshOf .next) (sumOf (freshOf .events))
 unfolding freshOf freshBody sumOf addedUp IsSum
 fresh-is-sound =
     record {
-      ready = record { valid = record { body = fresh-ok; course = record { len = omega arith; state = tt } }; long = length-replicate {A = ℕ} 256 0 };
+      ready = record { valid = record { body = fresh-ok; course = record { len = omega arith; state = tt; error = omega arith } }; long = length-replicate {A = ℕ} 256 0 };
       told = record { sum = refl; near = omega arith };
     }
 
@@ -39,15 +43,10 @@ call-is-sound : (k : Call) (d : Device) (s : Sum) → Sound d s → Sound (callO
 unfolding callOf tickOf haltedOf
 call-is-sound tick d s h =
     record {
-      ready = record { valid = step-keeps (d .core) (h .ready .valid) (d .text); long = h .ready .long };
-      told = step-tells (d .core) s (h .told) (d .text);
+      ready = record { valid = step-keeps (d .core) (h .ready .valid) (around (d .text)); long = h .ready .long };
+      told = step-tells (d .core) s (h .told) (around (d .text));
     }
-call-is-sound (act a added) d s h =
-    let l = text-keeps-its-length a added (d .text) (d .core) in
-    record {
-      ready = record { valid = act-keeps a added (d .text) (d .core) (h .ready); long = omega (arith, h .ready .long) };
-      told = act-tells (d .core) s (h .told) a added (d .text);
-    }
+call-is-sound (act a added) d s h = record { ready = act-keeps a added d (h .ready); told = act-tells a added d s (h .told) }
 call-is-sound stop d s h =
     record {
       ready = record { valid = stop-keeps (d .core) (h .ready .valid); long = h .ready .long };
@@ -100,15 +99,19 @@ module _ (calls : List Call) where
       record { above = omega arith; below = omega arith }
 
 -- to advance by ticks is to call as many ticks, and to run is to call some
-pub to-advance-is-to-call-ticks : (n : ℕ) (d : Device) → afterOf (replicate n tick) d ≡ advanceOf n d
-unfolding afterOf callOf tickOf advanceOf ticksOf
-to-advance-is-to-call-ticks zero d = refl
-to-advance-is-to-call-ticks (suc n) d = to-advance-is-to-call-ticks n (callOf tick d .next)
+ticks-called : (n : ℕ) (d : Device) (v : Verdict) → afterOf (replicate n tick) d ≡ device (d .text) (ticksOf n (around (d .text)) (stepped (d .core) v) .core)
+unfolding afterOf callOf tickOf ticksOf nextOf
+ticks-called zero d v = refl
+ticks-called (suc n) d v = ticks-called n (callOf tick d .next) (firstOf v (tickOf d .next .failed))
 
-pub to-run-is-to-call-ticks : (n : ℕ) (d : Device) → (k : ℕ) × (afterOf (replicate k tick) d ≡ ranOf n d .device)
+pub to-advance-is-to-call-ticks : (n : ℕ) (d : Device) → afterOf (replicate n tick) d ≡ advanceOf n d .device
+unfolding advanceOf
+to-advance-is-to-call-ticks n d = ticks-called n d Fine
+
+pub to-run-is-to-call-ticks : (n : ℕ) (d : Device) → (k : ℕ) × (afterOf (replicate k tick) d ≡ ranOf n d .turned .device)
 unfolding ranOf afterOf
 to-run-is-to-call-ticks n d =
-    let k = usedOf n (d .text) (d .core) in
-    by (λ (r : Ran). (k : ℕ) × (afterOf (replicate k tick) d ≡ r .device)) (ltb 60000 n)
+    let k = usedOf n (around (d .text)) (fine (d .core)) in
+    by (λ (r : Ran). (k : ℕ) × (afterOf (replicate k tick) d ≡ r .turned .device)) (ltb 60000 n)
     (λ h. (0, refl))
     (λ h. (k, to-advance-is-to-call-ticks k d))

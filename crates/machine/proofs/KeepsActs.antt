@@ -4,65 +4,35 @@ use mathlib.Core.Bool.{Bool, true, false}
 use mathlib.Core.List.{List}
 use Prim.Native.Nat.{ℕ, _+_, _≤_}
 use native.Mathlib.Omega.{arith}
-use borrow.Author.Tests.{eqb-true, ltb-false, leb-true}
-use lib.Dec.{ltb, leb, eqb}
+use borrow.Author.Tests.{leb-true}
+use lib.Dec.{ltb, leb}
 use lib.ListN.{length, take}
 use lib.Seq.{length-take-le}
-use Rattle.basics.specs.Choice.{if_then_else_}
 use Rattle.basics.specs.Lay.{fits, laidIn}
 use Rattle.basics.proofs.Choice.{by}
 use Rattle.basics.proofs.Over.{length-over}
-use Rattle.motion.specs.Events.{Turn}
+use Rattle.command.specs.declared.refusal.Verdict.{Verdict}
+use Rattle.command.specs.declared.refusal.Verdict.the-variants.{Fine, Refused}
+use Rattle.command.specs.Numbers.{refusalNumber}
+use Rattle.command.proofs.Numbers.{every-number-is-1-to-15}
 use Rattle.motion.proofs.Keeps.{cut-keeps, reset-keeps}
 use Rattle.buffer.specs.declared.course.State.{State}
 use Rattle.buffer.specs.declared.course.State.the-variants.{Empty, Stored, Running, Stopped, Done}
 use Rattle.buffer.specs.declared.course.Course.{Course}
 use Rattle.machine.specs.declared.step.Core.{Core}
+use Rattle.machine.specs.declared.Device.{Device}
 use Rattle.buffer.specs.declared.order.Action.{Action}
+use Rattle.buffer.specs.declared.order.Change.{Change}
+use Rattle.buffer.specs.declared.order.Change.the-variants as C
 use Rattle.buffer.specs.declared.order.Order.{Order}
 use Rattle.buffer.specs.declared.order.Order.the-variants as O
 use Rattle.machine.specs.Step.{core}
 use Rattle.buffer.specs.Course.{waiting, begun, halted}
-use Rattle.buffer.specs.Order.{orderOf, sized, codeOf, laidBy, storedBy}
-use Rattle.machine.specs.Act.{haltOf, stopOf, doneOf, coreError, actedOf, actOf, textOf}
+use Rattle.buffer.specs.Order.{orderOf, keptOf, lengthBy, verdictOf, laidBy, storedBy}
+use Rattle.machine.specs.Act.{haltOf, stopOf, changedOf, doneOf, coreError, actedOf, actOf}
 use Rattle.machine.specs.Valid.{CourseOk, Valid, Ready}
 use Rattle.machine.proofs.Keeps.{reached-ok}
-
--- a text that is not too long
-sized-fits : (n : ℕ) (loops : Bool) → sized n loops ≡ 0 → n ≤ 256
-unfolding sized
-sized-fits n loops = go (ltb 256 n) refl
-  where
-    go : (t : Bool) → ltb 256 n ≡ t → _≡_ {A = ℕ} (if t then 15 else if loops then 0 else 3) 0 → n ≤ 256
-    go true q h = absurd (omega arith)
-    go false q h = ltb-false 256 n q
-
--- what an order asks of the lengths of the stored text and of what is added
-abbrev pub Room : Order → ℕ → ℕ → Type 0
-Room (O.Refuse code) len n = Unit {0}
-Room (O.Replace run) len n = n ≤ 256
-Room O.Join len n = len + n ≤ 256
-Room O.Begin len n = Unit {0}
-Room O.Resume len n = Unit {0}
-Room O.EndDelay len n = Unit {0}
-Room O.Repeat len n = Unit {0}
-Room O.Erase len n = Unit {0}
-Room O.Halt len n = Unit {0}
-Room O.Reset len n = Unit {0}
-
--- an order accepted has room
-pub room : (o : Order) (stored added : List ℕ) → codeOf o stored added ≡ 0 → Room o (length stored) (length added)
-unfolding codeOf
-room (O.Refuse code) stored added h = tt
-room (O.Replace run) stored added h = sized-fits _ _ h
-room O.Join stored added h = sized-fits _ _ h
-room O.Begin stored added h = tt
-room O.Resume stored added h = tt
-room O.EndDelay stored added h = tt
-room O.Repeat stored added h = tt
-room O.Erase stored added h = tt
-room O.Halt stored added h = tt
-room O.Reset stored added h = tt
+use Rattle.machine.proofs.Acting.{accepted-fits}
 
 module _ (c : Core) (ok : Valid c) where
   -- the body as it is, over another course
@@ -70,17 +40,17 @@ module _ (c : Core) (ok : Valid c) where
   over-course d h = record { body = ok .body; course = h }
 
   begun-ok : (n : ℕ) → n ≤ 256 → Valid (core (c .body) (begun n (c .course)))
-  begun-ok n h = over-course (begun n (c .course)) (record { len = h; state = tt })
+  begun-ok n h = over-course (begun n (c .course)) (record { len = h; state = tt; error = ok .course .error })
 
   waiting-ok : (n : ℕ) → n ≤ 256 → Valid (core (c .body) (waiting n (c .course)))
-  waiting-ok n h = over-course (waiting n (c .course)) (record { len = h; state = tt })
+  waiting-ok n h = over-course (waiting n (c .course)) (record { len = h; state = tt; error = ok .course .error })
 
   halted-ok : CourseOk (halted (c .course))
   unfolding halted
   halted-ok =
       by CourseOk (ltb (c .course .at) (c .course .len))
-      (λ h. record { len = ok .course .len; state = tt })
-      (λ h. record { len = omega arith; state = tt })
+      (λ h. record { len = ok .course .len; state = tt; error = ok .course .error })
+      (λ h. record { len = omega arith; state = tt; error = ok .course .error })
 
   halt-keeps : (s : State) → Valid (haltOf s c .next)
   unfolding haltOf
@@ -94,29 +64,30 @@ module _ (c : Core) (ok : Valid c) where
   unfolding stopOf
   stop-keeps = halt-keeps (c .course .state)
 
-  done-keeps : (o : Order) (n : ℕ) → Room o (c .course .len) n → Valid (doneOf o n c .next)
+  changed-keeps : (k : Change) → Valid (changedOf k c .next)
+  unfolding changedOf
+  changed-keeps C.Begin = begun-ok (c .course .len) (ok .course .len)
+  changed-keeps C.Resume = over-course _ (record { len = ok .course .len; state = tt; error = ok .course .error })
+  changed-keeps C.EndDelay = over-course _ (reached-ok (c .course) (ok .course) (c .course .at) (c .course .loops))
+  changed-keeps C.Repeat = begun-ok (c .course .len) (ok .course .len)
+  changed-keeps C.Erase = over-course _ (record { len = omega arith; state = tt; error = ok .course .error })
+  changed-keeps C.Halt = stop-keeps
+  changed-keeps C.Reset = record { body = reset-keeps (c .body) (ok .body); course = record { len = omega arith; state = tt; error = ok .course .error } }
+
+  done-keeps : (o : Order) (n : ℕ) → lengthBy o (c .course .len) n ≤ 256 → Valid (doneOf o n c .next)
   unfolding doneOf
-  done-keeps (O.Refuse code) n h = ok
-  done-keeps (O.Replace true) n h = begun-ok n h
-  done-keeps (O.Replace false) n h = waiting-ok n h
-  done-keeps O.Join n h = begun-ok (c .course .len + n) h
-  done-keeps O.Begin n h = begun-ok (c .course .len) (ok .course .len)
-  done-keeps O.Resume n h = over-course _ (record { len = ok .course .len; state = tt })
-  done-keeps O.EndDelay n h = over-course _ (reached-ok (c .course) (ok .course) (c .course .at) (c .course .loops))
-  done-keeps O.Repeat n h = begun-ok (c .course .len) (ok .course .len)
-  done-keeps O.Erase n h = over-course _ (record { len = omega arith; state = tt })
-  done-keeps O.Halt n h = stop-keeps
-  done-keeps O.Reset n h = record { body = reset-keeps (c .body) (ok .body); course = record { len = omega arith; state = tt } }
+  done-keeps (O.Refuse why) n h = ok
+  done-keeps (O.Load l true) n h = begun-ok _ h
+  done-keeps (O.Load l false) n h = waiting-ok _ h
+  done-keeps (O.Change k) n h = changed-keeps k
 
-error-ok : (code : ℕ) (c : Core) → Valid c → Valid (coreError code c)
-error-ok code c ok = record { body = ok .body; course = record { len = ok .course .len; state = ok .course .state } }
+pub error-ok : (code : ℕ) (c : Core) → code ≤ 15 → Valid c → Valid (coreError code c)
+error-ok code c small ok = record { body = ok .body; course = record { len = ok .course .len; state = ok .course .state; error = small } }
 
-pub acted-keeps : (o : Order) (code n : ℕ) (c : Core) → Valid c → (code ≡ 0 → Room o (c .course .len) n) → Valid (actedOf o code n c .next)
+acted-keeps : (o : Order) (v : Verdict) (n : ℕ) (c : Core) → Valid c → (v ≡ Fine → lengthBy o (c .course .len) n ≤ 256) → Valid (actedOf o v n c .next)
 unfolding actedOf
-acted-keeps o code n c ok h =
-    by (λ (t : Turn Core). Valid (t .next)) (eqb code 0)
-    (λ e. error-ok 0 (doneOf o n c .next) (done-keeps c ok o n (h (eqb-true code 0 e))))
-    (λ e. error-ok code c ok)
+acted-keeps o Fine n c ok h = error-ok 0 (doneOf o n c .next) (omega arith) (done-keeps c ok o n (h refl))
+acted-keeps o (Refused why) n c ok h = error-ok (refusalNumber why) c (every-number-is-1-to-15 why .1) ok
 
 -- the array keeps its length
 length-laid-in : (added : List ℕ) (at : ℕ) (text : List ℕ) → length (laidIn added at text) ≡ length text
@@ -128,31 +99,25 @@ length-laid-in added at text =
 
 pub length-laid-by : (o : Order) (len : ℕ) (added text : List ℕ) → length (laidBy o len added text) ≡ length text
 unfolding laidBy
-length-laid-by (O.Refuse code) len added text = refl
-length-laid-by (O.Replace run) len added text = length-laid-in added 0 text
-length-laid-by O.Join len added text = length-laid-in added len text
-length-laid-by O.Begin len added text = refl
-length-laid-by O.Resume len added text = refl
-length-laid-by O.EndDelay len added text = refl
-length-laid-by O.Repeat len added text = refl
-length-laid-by O.Erase len added text = refl
-length-laid-by O.Halt len added text = refl
-length-laid-by O.Reset len added text = refl
+length-laid-by (O.Refuse why) len added text = refl
+length-laid-by (O.Load l run) len added text = length-laid-in added (keptOf l len) text
+length-laid-by (O.Change k) len added text = refl
 
-module _ (a : Action) (added text : List ℕ) (c : Core) where
-  pub text-keeps-its-length : length (textOf a added text c) ≡ length text
-  unfolding textOf storedBy
-  text-keeps-its-length =
-      let o = orderOf a (c .course .state) in
-      by (λ (t : List ℕ). length t ≡ length text) (eqb (codeOf o (take (c .course .len) text) added) 0)
-      (λ h. length-laid-by o (c .course .len) added text)
-      (λ h. refl)
+length-stored-by : (o : Order) (v : Verdict) (len : ℕ) (added text : List ℕ) → length (storedBy o v len added text) ≡ length text
+unfolding storedBy
+length-stored-by o Fine len added text = length-laid-by o len added text
+length-stored-by o (Refused why) len added text = refl
 
-  -- an action accepted has room, and one refused changes only the last error
-  pub act-keeps : Ready c text → Valid (actOf a added text c .next)
-  unfolding actOf
-  act-keeps ready =
-      let o = orderOf a (c .course .state) in
-      let all : length (take (c .course .len) text) ≡ c .course .len = length-take-le (c .course .len) text (omega (arith, ready .valid .course .len, ready .long)) in
-      acted-keeps o (codeOf o (take (c .course .len) text) added) (length added) c (ready .valid)
-      (λ e. rw all at (room o (take (c .course .len) text) added e))
+-- a string or a control that is accepted has room, and one refused changes only the last error
+pub act-keeps : (a : Action) (added : List ℕ) (d : Device) → Ready (d .core) (d .text) → (let e = actOf a added d .next .device in Ready (e .core) (e .text))
+unfolding actOf
+act-keeps a added d ready =
+    let c = d .core in
+    let o = orderOf a (c .course .state) in
+    let stored = take (c .course .len) (d .text) in
+    let all : length stored ≡ c .course .len = length-take-le (c .course .len) (d .text) (omega (arith, ready .valid .course .len, ready .long)) in
+    let long = length-stored-by o (verdictOf o stored added) (c .course .len) added (d .text) in
+    record {
+      valid = acted-keeps o (verdictOf o stored added) (length added) c (ready .valid) (λ e. rw all at (accepted-fits o stored added e));
+      long = omega (arith, ready .long);
+    }

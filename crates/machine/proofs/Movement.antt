@@ -1,7 +1,6 @@
 -- A movement ends after the ticks that its distance and speed give, and no sooner.
 use mathlib.Core.Path.{_≡_, refl, sym, ap, _∙_}
 use mathlib.Core.Bool.{Bool, true}
-use mathlib.Core.List.{List}
 use Prim.Native.Nat.{ℕ, zero, suc, _+_, _-_, _≤_, _<_}
 use native.Mathlib.Numerals.{add-one}
 use native.Mathlib.Omega.{arith}
@@ -12,7 +11,6 @@ use Rattle.settings.specs.Units.{goneOf}
 use Rattle.settings.proofs.Motion.{distance-gone-is-at-most-the-distance, movement-arrives, movement-arrives-no-sooner}
 use Rattle.motion.specs.declared.Body.{Body}
 use Rattle.motion.specs.declared.Travel.{Travel}
-use Rattle.motion.specs.declared.Moment.{Moment}
 use Rattle.motion.specs.declared.Activity.{Activity}
 use Rattle.motion.specs.declared.Activity.the-variants.{Initialising, Moving}
 use Rattle.motion.specs.Bounds.{TravelOk, ActivityOk}
@@ -21,12 +19,13 @@ use Rattle.buffer.specs.declared.course.State.{State}
 use Rattle.buffer.specs.declared.course.State.the-variants.{Running}
 use Rattle.buffer.specs.declared.course.Course.{Course}
 use Rattle.machine.specs.declared.step.Core.{Core}
-use Rattle.buffer.specs.Course.{inState, reached, goneOn}
-use Rattle.machine.specs.Step.{core, carriedOn, activeOf, stepOf}
+use Rattle.buffer.specs.Course.{inState, reached}
+use Rattle.machine.specs.declared.step.Stepped.{Stepped}
+use Rattle.machine.specs.Step.{Around, core, stepped, fine, appliedOf, carriedOn, runningOf, activeOf, stepOf}
 use Rattle.machine.specs.Run.{ticksOf}
 use Rattle.machine.specs.Valid.{Valid}
 use Rattle.machine.specs.Movement.{distanceOf, timeOf, since, UnderWay, arrivedOf}
-use Rattle.machine.proofs.Runs.{ticks-more}
+use Rattle.machine.proofs.Runs.{ticks-more, next-fine}
 
 module _ (a b : ℕ) where
   pub upwards : a ≤ b → b - a ≡ distanceOf a b
@@ -74,84 +73,82 @@ module _ (t : Travel) where
   away moves k l e =
       omega (arith, left-and-gone-are-the-distance (since t k), movement-arrives-no-sooner (t .speed) (distanceOf (t .from) (t .goal)) moves k l)
 
--- a tick of a movement's core
-unfoldable pub onward : Moment → Core → Core
-onward m c = core (m .body) (goneOn (m .activity) (c .course .at) (c .course))
-
 -- the two kinds of movement differ in what they make of "initialised" at their end
 pub record Kind (kind : Travel → Activity) (known : Bool → Bool) : Type 0 where
-  pub ticks : (text : List ℕ) (c : Core) (t : Travel) → activeOf (Running (kind t)) text c .next ≡ onward (carried kind (known (c .body .initialised)) (laterOf t) (c .body)) c
-  pub fine : (t : Travel) → ActivityOk (kind t) → TravelOk t
-  pub stays : (t : Travel) (c : Course) → goneOn (kind t) (c .at) c ≡ inState (Running (kind t)) c
+  pub ticks : (w : Around) (c : Core) (t : Travel) → activeOf (Running (kind t)) w c .next ≡ appliedOf (carried kind (known (c .body .initialised)) (laterOf t) (c .body)) (c .course .at) c
+  pub fine-so : (t : Travel) → ActivityOk (kind t) → TravelOk t
 
 pub a-move : Kind Moving (λ i. i)
-unfolding activeOf carriedOn onwardOf goneOn onward
-a-move = record { ticks = λ text c t. refl; fine = λ t h. h; stays = λ t c. refl }
+unfolding activeOf runningOf carriedOn onwardOf
+a-move = record { ticks = λ w c t. refl; fine-so = λ t h. h }
 
 pub initialising : Kind Initialising (λ i. true)
-unfolding activeOf carriedOn onwardOf goneOn onward
-initialising = record { ticks = λ text c t. refl; fine = λ t h. h; stays = λ t c. refl }
+unfolding activeOf runningOf carriedOn onwardOf
+initialising = record { ticks = λ w c t. refl; fine-so = λ t h. h }
 
-module _ (kind : Travel → Activity) (known : Bool → Bool) (is : Kind kind known) (text : List ℕ) where
+module _ (kind : Travel → Activity) (known : Bool → Bool) (is : Kind kind known) (w : Around) where
   module _ (d : Core) (t : Travel) (running : d .course .state ≡ Running (kind t)) where
-    pub one-tick : stepOf text d .next ≡ onward (carried kind (known (d .body .initialised)) (laterOf t) (d .body)) d
+    pub one-tick : stepOf w d .next ≡ appliedOf (carried kind (known (d .body .initialised)) (laterOf t) (d .body)) (d .course .at) d
     unfolding stepOf
-    one-tick = ap (λ (s : State). activeOf s text d .next) running ∙ is .ticks text d t
+    one-tick = ap (λ (x : State). activeOf x w d .next) running ∙ is .ticks w d t
 
-    pub goes-on : (plungerOf (laterOf t) ≡ t .goal → ⊥) → stepOf text d .next ≡ core (bodyAt (plungerOf (laterOf t)) (d .body)) (inState (Running (kind (laterOf t))) (d .course))
-    unfolding carried onward
-    goes-on h = one-tick ∙ rw (ne-eqb (plungerOf (laterOf t)) (t .goal) h, is .stays (laterOf t) (d .course))
+    pub goes-on : (plungerOf (laterOf t) ≡ t .goal → ⊥) → stepOf w d .next ≡ fine (core (bodyAt (plungerOf (laterOf t)) (d .body)) (inState (Running (kind (laterOf t))) (d .course)))
+    unfolding carried appliedOf
+    goes-on h = one-tick ∙ rw (ne-eqb (plungerOf (laterOf t)) (t .goal) h)
 
-    ends : plungerOf (laterOf t) ≡ t .goal → stepOf text d .next ≡ arrivedOf (known (d .body .initialised)) t d
-    unfolding carried onward arrivedOf goneOn
+    ends : plungerOf (laterOf t) ≡ t .goal → stepOf w d .next ≡ fine (arrivedOf (known (d .body .initialised)) t d)
+    unfolding carried appliedOf arrivedOf
     ends h = one-tick ∙ rw (eq-eqb (plungerOf (laterOf t)) (t .goal) h, h)
 
-  module _ (c : Core) (t : Travel) (ok : Valid c) (running : c .course .state ≡ Running (kind (since t 0))) where
+  module _ (s : Stepped) (t : Travel) (ok : Valid (s .core)) (running : s .core .course .state ≡ Running (kind (since t 0))) where
     moves : 0 < t .speed
-    moves = let ok = is .fine (since t 0) (rw running at (ok .course .state)) in omega (arith, ok .slow)
+    moves = let ok = is .fine-so (since t 0) (rw running at (ok .course .state)) in omega (arith, ok .slow)
 
-    further : (k j : ℕ) (d e : Core) → UnderWay kind t c k d → e ≡ core (bodyAt (plungerOf (since t j)) (d .body)) (inState (Running (kind (since t j))) (d .course)) → UnderWay kind t c j e
+    further :
+        (k j : ℕ) (d e : Stepped) → UnderWay kind t s k d →
+        e ≡ stepped (core (bodyAt (plungerOf (since t j)) (d .core .body)) (inState (Running (kind (since t j))) (d .core .course))) (d .failed) → UnderWay kind t s j e
     further k j d e h q =
         rw q
-        (record { plunger = λ l. refl; body = h .body; course = ap (λ (x : Course). inState (Running (kind (since t j))) x) (h .course) })
+        (record { plunger = λ l. refl; body = h .body; course = ap (λ (x : Course). inState (Running (kind (since t j))) x) (h .course); failed = h .failed })
 
-    under-way : (k : ℕ) → k < timeOf t → UnderWay kind t c k (ticksOf k text c)
+    under-way : (k : ℕ) → k < timeOf t → UnderWay kind t s k (ticksOf k w s)
     unfolding ticksOf
     under-way zero h =
-        record { plunger = λ l. absurd (omega arith); body = refl; course = ap (λ (s : State). inState s (c .course)) running }
+        record { plunger = λ l. absurd (omega arith); body = refl; course = ap (λ (x : State). inState x (s .core .course)) running; failed = refl }
     under-way (suc k) h =
         let so-far = under-way k (omega arith) in
-        let d = ticksOf k text c in
-        let on = goes-on d (since t k) (ap (λ (x : Course). x .state) (so-far .course)) (rw (add-one k) (away t moves (suc k) h)) in
-        further k (suc k) d (ticksOf (suc k) text c) so-far (ticks-more k text c ∙ rw (add-one k) at on)
+        let d = ticksOf k w s in
+        let on = goes-on (d .core) (since t k) (ap (λ (x : Course). x .state) (so-far .course)) (rw (add-one k) (away t moves (suc k) h)) in
+        further k (suc k) d (ticksOf (suc k) w s) so-far (ticks-more k w s ∙ rw (add-one k) at (next-fine w d _ on))
 
-    same-end : (k : ℕ) (d : Core) → UnderWay kind t c k d → arrivedOf (known (d .body .initialised)) (since t k) d ≡ arrivedOf (known (c .body .initialised)) t c
+    same-end : (k : ℕ) (d : Stepped) → UnderWay kind t s k d → stepped (arrivedOf (known (d .core .body .initialised)) (since t k) (d .core)) (d .failed) ≡ stepped (arrivedOf (known (s .core .body .initialised)) t (s .core)) (s .failed)
     unfolding arrivedOf reached
     same-end k d h =
-        ap (λ (b : Body). core (bodyKnown (known (b .initialised)) (bodyAt (t .goal) b)) (reached (d .course .at) (d .course .loops) (d .course))) (h .body)
-        ∙ ap (λ (x : Course). core (bodyKnown (known (c .body .initialised)) (bodyAt (t .goal) (c .body))) (reached (x .at) (x .loops) x)) (h .course)
+        ap (λ (b : Body). stepped (core (bodyKnown (known (b .initialised)) (bodyAt (t .goal) b)) (reached (d .core .course .at) (d .core .course .loops) (d .core .course))) (d .failed)) (h .body)
+        ∙ ap (λ (x : Course). stepped (core (bodyKnown (known (s .core .body .initialised)) (bodyAt (t .goal) (s .core .body))) (reached (x .at) (x .loops) x)) (d .failed)) (h .course)
+        ∙ ap (stepped _) (h .failed)
 
-    arrives : (n : ℕ) → n ≡ timeOf t → (t .from ≡ t .goal → ⊥) → ticksOf n text c ≡ arrivedOf (known (c .body .initialised)) t c
+    arrives : (n : ℕ) → n ≡ timeOf t → (t .from ≡ t .goal → ⊥) → ticksOf n w s ≡ stepped (arrivedOf (known (s .core .body .initialised)) t (s .core)) (s .failed)
     unfolding arrivedOf
     arrives zero e far = absurd (far (sym (sets-out t) ∙ rw e (there t moves)))
     arrives (suc k) e far =
         let so-far = under-way k (omega arith) in
-        let d = ticksOf k text c in
-        let last = ends d (since t k) (ap (λ (x : Course). x .state) (so-far .course)) (rw (add-one k, e) (there t moves)) in
-        ticks-more k text c ∙ last ∙ same-end k d so-far
+        let d = ticksOf k w s in
+        let last = ends (d .core) (since t k) (ap (λ (x : Course). x .state) (so-far .course)) (rw (add-one k, e) (there t moves)) in
+        ticks-more k w s ∙ next-fine w d _ last ∙ same-end k d so-far
 
 -- a movement of A, P or D, and one of W, in any valid core, from the tick in which it sets out on
-module _ (text : List ℕ) (c : Core) (ok : Valid c) (t : Travel) where
-  module _ (running : c .course .state ≡ Running (Moving (since t 0))) where
-    pub a-move-goes-on-until-its-time : (k : ℕ) → k < timeOf t → UnderWay Moving t c k (ticksOf k text c)
-    a-move-goes-on-until-its-time = under-way Moving (λ i. i) a-move text c t ok running
+module _ (w : Around) (s : Stepped) (ok : Valid (s .core)) (t : Travel) where
+  module _ (running : s .core .course .state ≡ Running (Moving (since t 0))) where
+    pub a-move-goes-on-until-its-time : (k : ℕ) → k < timeOf t → UnderWay Moving t s k (ticksOf k w s)
+    a-move-goes-on-until-its-time = under-way Moving (λ i. i) a-move w s t ok running
 
-    pub a-move-arrives-in-its-time : (t .from ≡ t .goal → ⊥) → ticksOf (timeOf t) text c ≡ arrivedOf (c .body .initialised) t c
-    a-move-arrives-in-its-time = arrives Moving (λ i. i) a-move text c t ok running (timeOf t) refl
+    pub a-move-arrives-in-its-time : (t .from ≡ t .goal → ⊥) → ticksOf (timeOf t) w s ≡ stepped (arrivedOf (s .core .body .initialised) t (s .core)) (s .failed)
+    a-move-arrives-in-its-time = arrives Moving (λ i. i) a-move w s t ok running (timeOf t) refl
 
-  module _ (running : c .course .state ≡ Running (Initialising (since t 0))) where
-    pub initialising-goes-on-until-its-time : (k : ℕ) → k < timeOf t → UnderWay Initialising t c k (ticksOf k text c)
-    initialising-goes-on-until-its-time = under-way Initialising (λ i. true) initialising text c t ok running
+  module _ (running : s .core .course .state ≡ Running (Initialising (since t 0))) where
+    pub initialising-goes-on-until-its-time : (k : ℕ) → k < timeOf t → UnderWay Initialising t s k (ticksOf k w s)
+    initialising-goes-on-until-its-time = under-way Initialising (λ i. true) initialising w s t ok running
 
-    pub initialising-arrives-in-its-time : (t .from ≡ t .goal → ⊥) → ticksOf (timeOf t) text c ≡ arrivedOf true t c
-    initialising-arrives-in-its-time = arrives Initialising (λ i. true) initialising text c t ok running (timeOf t) refl
+    pub initialising-arrives-in-its-time : (t .from ≡ t .goal → ⊥) → ticksOf (timeOf t) w s ≡ stepped (arrivedOf true t (s .core)) (s .failed)
+    initialising-arrives-in-its-time = arrives Initialising (λ i. true) initialising w s t ok running (timeOf t) refl

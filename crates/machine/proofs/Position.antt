@@ -14,34 +14,41 @@ use Rattle.settings.proofs.Rounding.{goal-is-within-half-an-increment}
 use Rattle.command.specs.declared.Way.{Way}
 use Rattle.command.specs.declared.Way.the-variants.{To, Up, Down}
 use Rattle.command.specs.declared.Command.{Command}
-use Rattle.command.specs.declared.Command.the-variants as C
+use Rattle.command.specs.declared.Command.the-variants as Command
+use Rattle.command.specs.declared.refusal.Verdict.{Verdict}
+use Rattle.command.specs.declared.refusal.Verdict.the-variants.{Fine, Refused}
 use Rattle.command.specs.declared.Found.{Found}
 use Rattle.command.specs.declared.Found.the-variants as F
 use Rattle.command.specs.Command.{commandAt}
 use Rattle.motion.specs.declared.Body.{Body}
 use Rattle.motion.specs.declared.Travel.{Travel}
-use Rattle.motion.specs.declared.Moment.{Moment}
 use Rattle.motion.specs.declared.Activity.{Activity}
 use Rattle.motion.specs.declared.Activity.the-variants.{Initialising, Moving, Delaying, Between}
 use Rattle.motion.specs.declared.Effect.{Effect}
-use Rattle.motion.specs.declared.Effect.the-variants.{Goes, Fails, Opens, Closes}
+use Rattle.motion.specs.declared.Effect.the-variants.{Goes, Ends, Fails, Opens, Closes}
 use Rattle.motion.specs.declared.Target.{Target}
 use Rattle.motion.specs.declared.Target.the-variants.{At, Outside}
 use Rattle.motion.specs.Events.{Turn}
-use Rattle.motion.specs.Motion.{laterOf, plungerOf, homeOf, within, targetOf, setOut, eventOf, aimed, moveOf, delayOf, effectOf, carried, onwardOf, cutOf, resetOf}
+use Rattle.motion.specs.Motion.{laterOf, plungerOf, homeOf, within, targetOf, setOut, eventOf, aimed, moveOf, delayOf, effectOf, carried, waitedOf, onwardOf, inMotion, between, cutOf, resetOf}
 use Rattle.buffer.specs.declared.course.State.{State}
 use Rattle.buffer.specs.declared.course.State.the-variants.{Empty, Stored, Running, Stopped, Done}
 use Rattle.buffer.specs.declared.course.Loops.{Loops}
 use Rattle.buffer.specs.declared.course.Course.{Course}
+use Rattle.buffer.specs.declared.course.Went.{Went}
+use Rattle.buffer.specs.declared.course.Column.the-variants as K
 use Rattle.machine.specs.declared.step.Core.{Core}
+use Rattle.machine.specs.declared.step.Stepped.{Stepped}
+use Rattle.machine.specs.declared.Device.{Device}
 use Rattle.buffer.specs.declared.order.Action.{Action}
 use Rattle.buffer.specs.declared.order.Action.the-variants as A
+use Rattle.buffer.specs.declared.order.Change.{Change}
+use Rattle.buffer.specs.declared.order.Change.the-variants as C
 use Rattle.buffer.specs.declared.order.Order.{Order}
 use Rattle.buffer.specs.declared.order.Order.the-variants as O
-use Rattle.buffer.specs.Course.{reached, goneOn, openedOf, closedOf, halted}
-use Rattle.machine.specs.Step.{core, appliedOf, takenOf, carriedOn, activeOf, stepOf}
-use Rattle.buffer.specs.Order.{orderOf, codeOf}
-use Rattle.machine.specs.Act.{haltOf, stopOf, doneOf, actedOf, actOf}
+use Rattle.buffer.specs.Course.{reached, halted, whileOf}
+use Rattle.buffer.specs.Order.{cellOf, orderOf, verdictOf}
+use Rattle.machine.specs.Step.{Around, core, wentOf, appliedOf, takenOf, carriedOn, runningOf, activeOf, stepOf}
+use Rattle.machine.specs.Act.{haltOf, stopOf, changedOf, doneOf, actedOf, actOf}
 use Rattle.machine.specs.History.{Sum, counted, addedUp, IsSum, moving}
 use Rattle.machine.proofs.Looping.{behind-open, behind-close}
 
@@ -64,25 +71,26 @@ pub record Told (place exact : ℕ) (s : Sum) : Type 0 where
   pub sum : IsSum exact s
   pub near : Near place exact
 
-abbrev MomentTold : Moment → Sum → Type 0
-MomentTold m s = Told (toward (m .activity) (m .body .plunger)) (m .body .exact) s
-
 abbrev pub CoreTold : Core → Sum → Type 0
 CoreTold c s = Told (heading (c .course .state) (c .body .plunger)) (c .body .exact) s
 
--- an effect on a body that rests
+-- an effect on a body that a loop leaves as it is
 abbrev EffectTold : Body → Effect → Sum → Type 0
-EffectTold b (Goes m) s = MomentTold m s
-EffectTold b (Fails code) s = Told (b .plunger) (b .exact) s
+EffectTold b (Goes d a) s = Told (toward a (d .plunger)) (d .exact) s
+EffectTold b (Ends d) s = Told (d .plunger) (d .exact) s
+EffectTold b (Fails why d) s = Told (d .plunger) (d .exact) s
 EffectTold b Opens s = Told (b .plunger) (b .exact) s
 EffectTold b (Closes n) s = Told (b .plunger) (b .exact) s
 
 -- where nothing moves, the place is the plunger's
+still : (a : Activity) (plunger : ℕ) → inMotion a ≡ false → toward a plunger ≡ plunger
+still (Initialising t) p h = absurd (true≢false h)
+still (Moving t) p h = absurd (true≢false h)
+still (Delaying k) p h = refl
+still Between p h = refl
+
 pub at-rest : (s : State) (plunger : ℕ) → moving s ≡ false → heading s plunger ≡ plunger
-at-rest (Running (Initialising t)) p h = absurd (true≢false h)
-at-rest (Running (Moving t)) p h = absurd (true≢false h)
-at-rest (Running (Delaying k)) p h = refl
-at-rest (Running Between) p h = refl
+at-rest (Running a) p h = still a p h
 at-rest Empty p h = refl
 at-rest Stored p h = refl
 at-rest Stopped p h = refl
@@ -150,39 +158,52 @@ module _ (b : Body) (s : Sum) (told : Told (b .plunger) (b .exact) s) where
 
   effect-tells : (k : Command) → EffectTold b (effectOf k b .next) (addedUp s (effectOf k b .events))
   unfolding effectOf addedUp
-  effect-tells (C.Initialise n) = home-tells n
-  effect-tells (C.Move way v) = move-tells way v
-  effect-tells (C.Speed pace n) = told
-  effect-tells (C.Slopes up down) = told
-  effect-tells (C.Backlash n) = told
-  effect-tells (C.Compensate n down) = told
-  effect-tells (C.Delay ms) = delay-tells ms
-  effect-tells C.Open = told
-  effect-tells (C.Close n) = told
+  effect-tells (Command.Initialise n) = home-tells n
+  effect-tells (Command.Move way v) = move-tells way v
+  effect-tells (Command.Speed pace n) = told
+  effect-tells (Command.Slopes up down) = told
+  effect-tells (Command.Backlash n) = told
+  effect-tells (Command.Compensate n down) = told
+  effect-tells (Command.Delay ms) = delay-tells ms
+  effect-tells Command.Open = told
+  effect-tells (Command.Close n) = told
 
 -- a tick of what is in progress: a movement that ends stands at its goal
-carried-tells : (kind : Travel → Activity) (known : Bool) (t : Travel) (b : Body) (s : Sum) → ((u : Travel) (plunger : ℕ) → toward (kind u) plunger ≡ u .goal) → Told (t .goal) (b .exact) s → MomentTold (carried kind known (laterOf t) b) s
+carried-tells :
+    (kind : Travel → Activity) (known : Bool) (t : Travel) (b : Body) (s : Sum) → ((u : Travel) (plunger : ℕ) → toward (kind u) plunger ≡ u .goal) →
+    Told (t .goal) (b .exact) s → EffectTold b (carried kind known (laterOf t) b) s
 unfolding carried
 carried-tells kind known t b s goes told =
     let u = laterOf t in
-    by (λ (m : Moment). MomentTold m s) (eqb (plungerOf u) (t .goal))
+    by (λ (e : Effect). EffectTold b e s) (eqb (plungerOf u) (t .goal))
     (λ e. record { sum = told .sum; near = rw (eqb-true (plungerOf u) (t .goal) e) (told .near) })
     (λ e. rw (goes u (plungerOf u)) told)
 
-onward-tells : (a : Activity) (b : Body) (s : Sum) → Told (toward a (b .plunger)) (b .exact) s → MomentTold (onwardOf a b) s
-unfolding onwardOf
+waited-tells : (k : ℕ) (b : Body) (s : Sum) → Told (b .plunger) (b .exact) s → EffectTold b (waitedOf k b) s
+unfolding waitedOf
+waited-tells k b s told = by (λ (e : Effect). EffectTold b e s) (leb k 1) (λ h. told) (λ h. told)
+
+onward-tells : (a : Activity) (b : Body) (s : Sum) → Told (toward a (b .plunger)) (b .exact) s → EffectTold b (onwardOf a b .next) (addedUp s (onwardOf a b .events))
+unfolding onwardOf addedUp
 onward-tells (Initialising t) b s told = carried-tells Initialising true t b s (λ u p. refl) told
 onward-tells (Moving t) b s told = carried-tells Moving (b .initialised) t b s (λ u p. refl) told
-onward-tells (Delaying k) b s told = by (λ (m : Moment). MomentTold m s) (leb k 1) (λ h. told) (λ h. told)
+onward-tells (Delaying k) b s told = waited-tells k b s told
 onward-tells Between b s told = told
 
 -- a movement that is cut starts anew at the plunger
 cut-tells : (a : Activity) (b : Body) (s : Sum) → Told (toward a (b .plunger)) (b .exact) s → Told (cutOf a b .next .plunger) (cutOf a b .next .exact) (addedUp s (cutOf a b .events))
 unfolding cutOf addedUp IsSum
-cut-tells (Initialising t) b s told = record { sum = refl; near = omega arith }
-cut-tells (Moving t) b s told = record { sum = refl; near = omega arith }
-cut-tells (Delaying k) b s told = told
-cut-tells Between b s told = told
+cut-tells a b s told =
+    by (λ (t : Turn Body). Told (t .next .plunger) (t .next .exact) (addedUp s (t .events))) (inMotion a)
+    (λ h. record { sum = refl; near = omega arith })
+    (λ h. rw (still a (b .plunger) h) at told)
+
+-- between two commands nothing moves
+idle : (a : Activity) (plunger : ℕ) → between a ≡ true → toward a plunger ≡ plunger
+idle (Initialising t) p h = absurd (false≢true h)
+idle (Moving t) p h = absurd (false≢true h)
+idle (Delaying k) p h = absurd (false≢true h)
+idle Between p h = refl
 
 -- a command that has ended leaves nothing that moves
 abbrev Rests : Course → Type 0
@@ -200,49 +221,50 @@ module _ (c : Course) where
 rests-told : (c : Course) (b : Body) (s : Sum) → Rests c → Told (b .plunger) (b .exact) s → CoreTold (core b c) s
 rests-told c b s h told = rw (at-rest (c .state) (b .plunger) h) told
 
-gone-on-tells : (m : Moment) (at : ℕ) (c : Course) (s : Sum) → MomentTold m s → CoreTold (core (m .body) (goneOn (m .activity) at c)) s
-unfolding goneOn
-gone-on-tells m at c s = go (m .activity)
-  where
-    go : (a : Activity) → Told (toward a (m .body .plunger)) (m .body .exact) s → CoreTold (core (m .body) (goneOn a at c)) s
-    go (Initialising t) told = told
-    go (Moving t) told = told
-    go (Delaying k) told = told
-    go Between told = rests-told (reached at (c .loops) c) (m .body) s (reached-rests c at (c .loops)) told
-
 module _ (c : Core) where
-  applied-tells : (e : Effect) (next : ℕ) (s : Sum) → EffectTold (c .body) e s → CoreTold (appliedOf e next c) s
-  unfolding appliedOf
-  applied-tells (Goes m) next s told = gone-on-tells m next (c .course) s told
-  applied-tells (Fails code) next s told = told
-  applied-tells Opens next s told = rests-told (openedOf next (c .course)) (c .body) s (behind-open Rests (c .course) (reached-rests (c .course)) refl next) told
-  applied-tells (Closes n) next s told = rests-told (closedOf n next (c .course)) (c .body) s (behind-close Rests (c .course) (reached-rests (c .course)) refl n next) told
+  abbrev WentTold : Sum → Went → Type 0
+  WentTold s g = CoreTold (wentOf g (c .body) (c .course) .core) s
 
-  taken-tells : (f : Found) (s : Sum) → Told (c .body .plunger) (c .body .exact) s → CoreTold (takenOf f c .next) (addedUp s (takenOf f c .events))
+  ended-tells : (b : Body) (at : ℕ) (l : Loops) (s : Sum) → Told (b .plunger) (b .exact) s → CoreTold (core b (reached at l (c .course))) s
+  ended-tells b at l s told = rests-told (reached at l (c .course)) b s (reached-rests (c .course) at l) told
+
+  applied-tells : (e : Effect) (next : ℕ) (s : Sum) → EffectTold (c .body) e s → CoreTold (appliedOf e next c .core) s
+  unfolding appliedOf
+  applied-tells (Goes b a) next s told = told
+  applied-tells (Ends b) next s told = ended-tells b next (c .course .loops) s told
+  applied-tells (Fails why b) next s told = told
+  applied-tells Opens next s told = behind-open (WentTold s) (c .course) (λ at l. ended-tells (c .body) at l s told) told next
+  applied-tells (Closes n) next s told = behind-close (WentTold s) (c .course) (λ at l. ended-tells (c .body) at l s told) told n next
+
+  taken-tells : (f : Found) (s : Sum) → Told (c .body .plunger) (c .body .exact) s → CoreTold (takenOf f c .next .core) (addedUp s (takenOf f c .events))
   unfolding takenOf addedUp
   taken-tells (F.Command k next) s told = applied-tells (effectOf k (c .body) .next) next _ (effect-tells (c .body) s told k)
-  taken-tells (F.Refused r) s told = told
-  taken-tells F.End s told = rests-told (reached (c .course .at) (c .course .loops) (c .course)) (c .body) s (reached-rests (c .course) (c .course .at) (c .course .loops)) told
+  taken-tells (F.Refused m) s told = told
+  taken-tells F.End s told = ended-tells (c .body) (c .course .at) (c .course .loops) s told
 
-  carried-on-tells : (a : Activity) (s : Sum) → Told (toward a (c .body .plunger)) (c .body .exact) s → CoreTold (carriedOn a c) s
+  carried-on-tells : (a : Activity) (s : Sum) → Told (toward a (c .body .plunger)) (c .body .exact) s → CoreTold (carriedOn a c .next .core) (addedUp s (carriedOn a c .events))
   unfolding carriedOn
-  carried-on-tells a s told = gone-on-tells (onwardOf a (c .body)) (c .course .at) (c .course) s (onward-tells a (c .body) s told)
+  carried-on-tells a s told = applied-tells (onwardOf a (c .body) .next) (c .course .at) _ (onward-tells a (c .body) s told)
+
+  running-tells : (a : Activity) (w : Around) (s : Sum) → Told (toward a (c .body .plunger)) (c .body .exact) s → CoreTold (runningOf a w c .next .core) (addedUp s (runningOf a w c .events))
+  unfolding runningOf
+  running-tells a w s told =
+      by (λ (t : Turn Stepped). CoreTold (t .next .core) (addedUp s (t .events))) (between a)
+      (λ h. taken-tells (commandAt (take (c .course .len) (w .text)) (c .course .at)) s (rw (idle a (c .body .plunger) h) at told))
+      (λ h. carried-on-tells a s told)
 
 module _ (c : Core) (s : Sum) (told : CoreTold c s) where
-  active-tells : (st : State) (text : List ℕ) → Told (heading st (c .body .plunger)) (c .body .exact) s → CoreTold (activeOf st text c .next) (addedUp s (activeOf st text c .events))
+  active-tells : (st : State) (w : Around) → Told (heading st (c .body .plunger)) (c .body .exact) s → CoreTold (activeOf st w c .next .core) (addedUp s (activeOf st w c .events))
   unfolding activeOf addedUp
-  active-tells (Running (Initialising t)) text h = carried-on-tells c (Initialising t) s h
-  active-tells (Running (Moving t)) text h = carried-on-tells c (Moving t) s h
-  active-tells (Running (Delaying k)) text h = carried-on-tells c (Delaying k) s h
-  active-tells (Running Between) text h = taken-tells c (commandAt (take (c .course .len) text) (c .course .at)) s h
-  active-tells Empty text h = told
-  active-tells Stored text h = told
-  active-tells Stopped text h = told
-  active-tells Done text h = told
+  active-tells (Running a) w h = running-tells c a w s h
+  active-tells Empty w h = told
+  active-tells Stored w h = told
+  active-tells Stopped w h = told
+  active-tells Done w h = told
 
-  pub step-tells : (text : List ℕ) → CoreTold (stepOf text c .next) (addedUp s (stepOf text c .events))
+  pub step-tells : (w : Around) → CoreTold (stepOf w c .next .core) (addedUp s (stepOf w c .events))
   unfolding stepOf
-  step-tells text = active-tells (c .course .state) text told
+  step-tells w = active-tells (c .course .state) w told
 
   halt-tells : (st : State) → Told (heading st (c .body .plunger)) (c .body .exact) s → CoreTold (haltOf st c .next) (addedUp s (haltOf st c .events))
   unfolding haltOf addedUp
@@ -259,33 +281,39 @@ module _ (c : Core) (s : Sum) (told : CoreTold c s) where
   stop-tells = halt-tells (c .course .state) told
 
 -- the orders that may come while something moves
-abbrev Mild : Order → Type 0
-Mild (O.Refuse code) = Unit {0}
-Mild (O.Replace run) = ⊥
-Mild O.Join = ⊥
-Mild O.Begin = ⊥
-Mild O.Resume = ⊥
-Mild O.EndDelay = ⊥
-Mild O.Repeat = ⊥
-Mild O.Erase = ⊥
-Mild O.Halt = Unit {0}
-Mild O.Reset = Unit {0}
+abbrev MildChange : Change → Type 0
+MildChange C.Begin = ⊥
+MildChange C.Resume = ⊥
+MildChange C.EndDelay = ⊥
+MildChange C.Repeat = ⊥
+MildChange C.Erase = ⊥
+MildChange C.Halt = Unit {0}
+MildChange C.Reset = Unit {0}
 
-mild : (a : Action) (t : Travel) → Mild (orderOf a (Running (Initialising t))) × Mild (orderOf a (Running (Moving t)))
-unfolding orderOf
-mild A.Store t = (tt, tt)
-mild A.Launch t = (tt, tt)
-mild A.Run t = (tt, tt)
-mild A.Again t = (tt, tt)
-mild A.Clear t = (tt, tt)
-mild A.Stop t = (tt, tt)
-mild A.Reset t = (tt, tt)
+abbrev Mild : Order → Type 0
+Mild (O.Refuse why) = Unit {0}
+Mild (O.Load l run) = ⊥
+Mild (O.Change k) = MildChange k
+
+mild : (a : Action) → Mild (cellOf a K.Busy)
+unfolding cellOf
+mild A.Store = tt
+mild A.Launch = tt
+mild A.Run = tt
+mild A.Again = tt
+mild A.Clear = tt
+mild A.Stop = tt
+mild A.Reset = tt
+
+-- a movement's column
+busy-moving : (a : Activity) → inMotion a ≡ true → whileOf a ≡ K.Busy
+busy-moving (Initialising t) h = refl
+busy-moving (Moving t) h = refl
+busy-moving (Delaying k) h = absurd (false≢true h)
+busy-moving Between h = refl
 
 while-moving : (a : Action) (s : State) → moving s ≡ true → Mild (orderOf a s)
-while-moving a (Running (Initialising t)) h = mild a t .0
-while-moving a (Running (Moving t)) h = mild a t .1
-while-moving a (Running (Delaying k)) h = absurd (false≢true h)
-while-moving a (Running Between) h = absurd (false≢true h)
+while-moving a (Running k) h = rw (busy-moving k h) (mild a)
 while-moving a Empty h = absurd (false≢true h)
 while-moving a Stored h = absurd (false≢true h)
 while-moving a Stopped h = absurd (false≢true h)
@@ -300,28 +328,32 @@ module _ (c : Core) (s : Sum) (told : CoreTold c s) where
   resting : (moving (c .course .state) ≡ true → ⊥) → Told (c .body .plunger) (c .body .exact) s
   resting h = rw (at-rest (c .course .state) (c .body .plunger) (not-moving (moving (c .course .state)) h)) at told
 
+  changed-tells : (k : Change) → (moving (c .course .state) ≡ true → MildChange k) → CoreTold (changedOf k c .next) (addedUp s (changedOf k c .events))
+  unfolding changedOf addedUp resetOf IsSum
+  changed-tells C.Begin h = resting h
+  changed-tells C.Resume h = resting h
+  changed-tells C.EndDelay h = ended-tells c (c .body) (c .course .at) (c .course .loops) s (resting h)
+  changed-tells C.Repeat h = resting h
+  changed-tells C.Erase h = resting h
+  changed-tells C.Halt h = stop-tells c s told
+  changed-tells C.Reset h = record { sum = refl; near = omega arith }
+
   done-tells : (o : Order) (n : ℕ) → (moving (c .course .state) ≡ true → Mild o) → CoreTold (doneOf o n c .next) (addedUp s (doneOf o n c .events))
-  unfolding doneOf addedUp resetOf IsSum
-  done-tells (O.Refuse code) n h = told
-  done-tells (O.Replace true) n h = resting h
-  done-tells (O.Replace false) n h = resting h
-  done-tells O.Join n h = resting h
-  done-tells O.Begin n h = resting h
-  done-tells O.Resume n h = resting h
-  done-tells O.EndDelay n h = rests-told (reached (c .course .at) (c .course .loops) (c .course)) (c .body) s (reached-rests (c .course) (c .course .at) (c .course .loops)) (resting h)
-  done-tells O.Repeat n h = resting h
-  done-tells O.Erase n h = resting h
-  done-tells O.Halt n h = stop-tells c s told
-  done-tells O.Reset n h = record { sum = refl; near = omega arith }
+  unfolding doneOf addedUp
+  done-tells (O.Refuse why) n h = told
+  done-tells (O.Load l true) n h = resting h
+  done-tells (O.Load l false) n h = resting h
+  done-tells (O.Change k) n h = changed-tells k h
 
-  acted-tells : (o : Order) (code n : ℕ) → (moving (c .course .state) ≡ true → Mild o) → CoreTold (actedOf o code n c .next) (addedUp s (actedOf o code n c .events))
+  acted-tells : (o : Order) (v : Verdict) (n : ℕ) → (moving (c .course .state) ≡ true → Mild o) → CoreTold (actedOf o v n c .next) (addedUp s (actedOf o v n c .events))
   unfolding actedOf addedUp
-  acted-tells o code n h =
-      by (λ (t : Turn Core). CoreTold (t .next) (addedUp s (t .events))) (eqb code 0) (λ e. done-tells o n h) (λ e. told)
+  acted-tells o Fine n h = done-tells o n h
+  acted-tells o (Refused why) n h = told
 
-  -- an action accepted, and one refused, which changes only the last error
-  pub act-tells : (a : Action) (added text : List ℕ) → CoreTold (actOf a added text c .next) (addedUp s (actOf a added text c .events))
-  unfolding actOf
-  act-tells a added text =
-      let o = orderOf a (c .course .state) in
-      acted-tells o (codeOf o (take (c .course .len) text) added) (length added) (while-moving a (c .course .state))
+-- a string or a control that is accepted, and one refused, which changes only the last error
+pub act-tells : (a : Action) (added : List ℕ) (d : Device) (s : Sum) → CoreTold (d .core) s → CoreTold (actOf a added d .next .device .core) (addedUp s (actOf a added d .events))
+unfolding actOf
+act-tells a added d s told =
+    let c = d .core in
+    let o = orderOf a (c .course .state) in
+    acted-tells c s told o (verdictOf o (take (c .course .len) (d .text)) added) (length added) (while-moving a (c .course .state))

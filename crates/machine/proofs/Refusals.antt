@@ -5,264 +5,219 @@ use mathlib.Core.Bool.{Bool, true, false, false≢true}
 use mathlib.Core.List.{List, []}
 use Prim.Native.Nat.{ℕ, _≤_, _<_}
 use native.Mathlib.Omega.{arith}
-use borrow.Author.Tests.{ne-eqb, ltb-true, ltb-false}
+use borrow.Author.Tests.{ltb-true, ltb-false, lt-ltb, le-ltb}
 use lib.Dec.{ltb}
-use lib.ListN.{length, take}
+use lib.ListN.{length}
 use Rattle.basics.specs.Choice.{if_then_else_}
-use Rattle.motion.specs.declared.Activity.the-variants.{Initialising, Moving, Delaying, Between}
+use Rattle.command.specs.declared.refusal.Refusal.{Refusal}
+use Rattle.command.specs.declared.refusal.Refusal.the-variants as R
+use Rattle.command.specs.declared.refusal.Verdict.{Verdict}
+use Rattle.command.specs.declared.refusal.Verdict.the-variants.{Fine, Refused}
+use Rattle.command.specs.Numbers.{refusalNumber, verdictNumber}
 use Rattle.buffer.specs.declared.course.State.{State}
-use Rattle.buffer.specs.declared.course.State.the-variants.{Empty, Stored, Running, Stopped, Done}
-use Rattle.machine.specs.declared.step.Core.{Core}
+use Rattle.buffer.specs.declared.course.Column.{Column}
+use Rattle.buffer.specs.declared.course.Column.the-variants as K
 use Rattle.buffer.specs.declared.order.Action.{Action}
 use Rattle.buffer.specs.declared.order.Action.the-variants as A
+use Rattle.buffer.specs.declared.order.Loading.{Loading}
+use Rattle.buffer.specs.declared.order.Change.{Change}
 use Rattle.buffer.specs.declared.order.Order.{Order}
 use Rattle.buffer.specs.declared.order.Order.the-variants as O
-use Rattle.buffer.specs.Order.{orderOf, sized, codeOf, storedBy}
-use Rattle.machine.specs.Act.{coreError, actedOf, actOf, textOf}
-use Rattle.machine.specs.Refusals.{answerOf, NothingToRun, run-empty, run-done, again-empty, again-stored, again-stopped, again-delaying, initialising, moving, between, Busy, store, clear, launch, run, again, lengthBy, loopsBy, TooMuch, busy, long, WrongLoops, Exactly}
+use Rattle.buffer.specs.Course.{columnOf}
+use Rattle.buffer.specs.Order.{cellOf, orderOf, lengthBy, loopsBy, sized, verdictOf, storedBy}
+use Rattle.machine.specs.declared.Device.{Device}
+use Rattle.machine.specs.Act.{coreError, actedOf, acted, actOf}
+use Rattle.machine.specs.Refusals.{storedIn, verdictFor, numberFor, NothingToRun, run-empty, run-done, again-empty, again-stored, again-stopped, again-delaying, Busy, store, store-delaying, clear, clear-delaying, launch, run, again, TooMuch, busy, long, WrongLoops, Exactly}
 
 -- "a refusal changes nothing but the last error"
-module _ (a : Action) (added text : List ℕ) (c : Core) (refused : answerOf a added text c ≡ 0 → ⊥) where
-  pub a-refusal-sets-the-error-only : actOf a added text c .next ≡ coreError (answerOf a added text c) c
+module _ (a : Action) (added : List ℕ) (d : Device) (why : Refusal) (refused : verdictFor a added d ≡ Refused why) where
+  pub a-refusal-sets-the-error-only : actOf a added d .next ≡ acted (d .text) (coreError (refusalNumber why) (d .core)) (Refused why)
+  unfolding actOf actedOf storedBy
+  a-refusal-sets-the-error-only = rw refused
+
+  pub a-refusal-adds-no-event : actOf a added d .events ≡ []
   unfolding actOf actedOf
-  a-refusal-sets-the-error-only = rw (ne-eqb (answerOf a added text c) 0 refused)
-
-  pub a-refusal-adds-no-event : actOf a added text c .events ≡ []
-  unfolding actOf actedOf
-  a-refusal-adds-no-event = rw (ne-eqb (answerOf a added text c) 0 refused)
-
-  pub a-refusal-keeps-the-text : textOf a added text c ≡ text
-  unfolding textOf storedBy
-  a-refusal-keeps-the-text = rw (ne-eqb (answerOf a added text c) 0 refused)
-
--- an order that is no refusal
-abbrev Accepts : Order → Type 0
-Accepts (O.Refuse code) = ⊥
-Accepts (O.Replace runs) = Unit {0}
-Accepts O.Join = Unit {0}
-Accepts O.Begin = Unit {0}
-Accepts O.Resume = Unit {0}
-Accepts O.EndDelay = Unit {0}
-Accepts O.Repeat = Unit {0}
-Accepts O.Erase = Unit {0}
-Accepts O.Halt = Unit {0}
-Accepts O.Reset = Unit {0}
+  a-refusal-adds-no-event = rw refused
 
 -- a cell of the table
-data Cell (a : Action) (s : State) : Order → Type 0 where
-  none : NothingToRun a s → Cell a s (O.Refuse 14)
-  full : Busy a s → Cell a s (O.Refuse 15)
-  takes : (o : Order) → Accepts o → Cell a s o
+data Cell (a : Action) (k : Column) : Order → Type 0 where
+  none : NothingToRun a k → Cell a k (O.Refuse R.NothingToRun)
+  full : Busy a k → Cell a k (O.Refuse R.Busy)
+  loads : (l : Loading) (run : Bool) → Cell a k (O.Load l run)
+  changes : (c : Change) → Cell a k (O.Change c)
 
-cell : (a : Action) (s : State) → Cell a s (orderOf a s)
-unfolding orderOf
-cell A.Store (Running k) = full (store k)
-cell A.Store Empty = takes (O.Replace false) tt
-cell A.Store Stored = takes (O.Replace false) tt
-cell A.Store Stopped = takes (O.Replace false) tt
-cell A.Store Done = takes (O.Replace false) tt
-cell A.Launch Stored = takes O.Join tt
-cell A.Launch Empty = takes (O.Replace true) tt
-cell A.Launch Done = takes (O.Replace true) tt
-cell A.Launch Stopped = takes (O.Replace true) tt
-cell A.Launch (Running (Delaying k)) = takes (O.Replace true) tt
-cell A.Launch (Running (Initialising t)) = full (launch (Initialising t) (initialising t))
-cell A.Launch (Running (Moving t)) = full (launch (Moving t) (moving t))
-cell A.Launch (Running Between) = full (launch Between between)
-cell A.Run Stored = takes O.Begin tt
-cell A.Run Stopped = takes O.Resume tt
-cell A.Run (Running (Delaying k)) = takes O.EndDelay tt
-cell A.Run Empty = none run-empty
-cell A.Run Done = none run-done
-cell A.Run (Running (Initialising t)) = full (run (Initialising t) (initialising t))
-cell A.Run (Running (Moving t)) = full (run (Moving t) (moving t))
-cell A.Run (Running Between) = full (run Between between)
-cell A.Again Done = takes O.Repeat tt
-cell A.Again Empty = none again-empty
-cell A.Again Stored = none again-stored
-cell A.Again Stopped = none again-stopped
-cell A.Again (Running (Delaying k)) = none (again-delaying k)
-cell A.Again (Running (Initialising t)) = full (again (Initialising t) (initialising t))
-cell A.Again (Running (Moving t)) = full (again (Moving t) (moving t))
-cell A.Again (Running Between) = full (again Between between)
-cell A.Clear (Running k) = full (clear k)
-cell A.Clear Empty = takes O.Erase tt
-cell A.Clear Stored = takes O.Erase tt
-cell A.Clear Stopped = takes O.Erase tt
-cell A.Clear Done = takes O.Erase tt
-cell A.Stop s = takes O.Halt tt
-cell A.Reset s = takes O.Reset tt
+cell : (a : Action) (k : Column) → Cell a k (cellOf a k)
+unfolding cellOf
+cell A.Store K.Empty = loads _ _
+cell A.Store K.Stored = loads _ _
+cell A.Store K.Busy = full store
+cell A.Store K.Delaying = full store-delaying
+cell A.Store K.Stopped = loads _ _
+cell A.Store K.Done = loads _ _
+cell A.Launch K.Empty = loads _ _
+cell A.Launch K.Stored = loads _ _
+cell A.Launch K.Busy = full launch
+cell A.Launch K.Delaying = loads _ _
+cell A.Launch K.Stopped = loads _ _
+cell A.Launch K.Done = loads _ _
+cell A.Run K.Empty = none run-empty
+cell A.Run K.Stored = changes _
+cell A.Run K.Busy = full run
+cell A.Run K.Delaying = changes _
+cell A.Run K.Stopped = changes _
+cell A.Run K.Done = none run-done
+cell A.Again K.Empty = none again-empty
+cell A.Again K.Stored = none again-stored
+cell A.Again K.Busy = full again
+cell A.Again K.Delaying = none again-delaying
+cell A.Again K.Stopped = none again-stopped
+cell A.Again K.Done = changes _
+cell A.Clear K.Empty = changes _
+cell A.Clear K.Stored = changes _
+cell A.Clear K.Busy = full clear
+cell A.Clear K.Delaying = full clear-delaying
+cell A.Clear K.Stopped = changes _
+cell A.Clear K.Done = changes _
+cell A.Stop k = changes _
+cell A.Reset k = changes _
 
--- how an order that is no refusal may be refused still: the length, and then the loops
-data Told (o : Order) (stored added : List ℕ) : ℕ → Type 0 where
-  fine : lengthBy o (length stored) (length added) ≤ 256 → loopsBy o stored added ≡ true → Told o stored added 0
-  too-long : 256 < lengthBy o (length stored) (length added) → Told o stored added 15
-  wrong : lengthBy o (length stored) (length added) ≤ 256 → loopsBy o stored added ≡ false → Told o stored added 3
+-- what is answered, with the reason: the cell, then the length, then the loops
+data Told (a : Action) (k : Column) (o : Order) (stored added : List ℕ) : Verdict → Type 0 where
+  nothing : NothingToRun a k → Told a k o stored added (Refused R.NothingToRun)
+  at-work : Busy a k → Told a k o stored added (Refused R.Busy)
+  too-long : 256 < lengthBy o (length stored) (length added) → Told a k o stored added (Refused R.TooLong)
+  wrong : lengthBy o (length stored) (length added) ≤ 256 → loopsBy o stored added ≡ false → Told a k o stored added (Refused R.Loops)
+  fine : lengthBy o (length stored) (length added) ≤ 256 → loopsBy o stored added ≡ true → Told a k o stored added Fine
 
-module _ (o : Order) (stored added : List ℕ) where
-  told-loops : (b : Bool) → loopsBy o stored added ≡ b → lengthBy o (length stored) (length added) ≤ 256 → Told o stored added (if b then 0 else 3)
-  told-loops true e h = fine h e
-  told-loops false e h = wrong h e
+module _ (a : Action) (k : Column) (stored added : List ℕ) where
+  told-loops : (o : Order) (b : Bool) → loopsBy o stored added ≡ b → lengthBy o (length stored) (length added) ≤ 256 → Told a k o stored added (if b then Fine else Refused R.Loops)
+  told-loops o true e h = fine h e
+  told-loops o false e h = wrong h e
 
-  told-sized : (n : ℕ) (b : Bool) → lengthBy o (length stored) (length added) ≡ n → loopsBy o stored added ≡ b → Told o stored added (sized n b)
+  told-sized : (o : Order) → Told a k o stored added (sized (lengthBy o (length stored) (length added)) (loopsBy o stored added))
   unfolding sized
-  told-sized n b p e = go (ltb 256 n) refl
+  told-sized o = go (ltb 256 (lengthBy o (length stored) (length added))) refl
     where
-      go : (x : Bool) → ltb 256 n ≡ x → Told o stored added (if x then 15 else if b then 0 else 3)
-      go true q = too-long (omega (arith, ltb-true 256 n q))
-      go false q = told-loops b e (omega (arith, ltb-false 256 n q))
+      go : (x : Bool) → ltb 256 (lengthBy o (length stored) (length added)) ≡ x → Told a k o stored added (if x then Refused R.TooLong else if loopsBy o stored added then Fine else Refused R.Loops)
+      go true q = too-long (ltb-true 256 _ q)
+      go false q = told-loops o (loopsBy o stored added) refl (ltb-false 256 _ q)
 
-  only-long : (n : ℕ) → Told o stored added n → n ≡ 15 → 256 < lengthBy o (length stored) (length added)
-  only-long n (fine h w) e = absurd (omega arith)
-  only-long n (too-long h) e = h
-  only-long n (wrong h w) e = absurd (omega arith)
+  told : (o : Order) → Cell a k o → Told a k o stored added (verdictOf o stored added)
+  unfolding verdictOf
+  told o (none h) = nothing h
+  told o (full h) = at-work h
+  told o (loads l runs) = told-sized (O.Load l runs)
+  told o (changes c) = told-loops (O.Change c) (loopsBy (O.Change c) stored added) refl (omega arith)
 
-  only-wrong : (n : ℕ) → Told o stored added n → n ≡ 3 → (lengthBy o (length stored) (length added) ≤ 256) × (loopsBy o stored added ≡ false)
-  only-wrong n (fine h w) e = absurd (omega arith)
-  only-wrong n (too-long h) e = absurd (omega arith)
-  only-wrong n (wrong h w) e = (h, w)
+  -- a number only with its reason
+  module _ (o : Order) where
+    only-14 : (v : Verdict) → Told a k o stored added v → verdictNumber v ≡ 14 → NothingToRun a k
+    only-14 v (nothing h) e = h
+    only-14 v (at-work h) e = absurd (omega arith)
+    only-14 v (too-long h) e = absurd (omega arith)
+    only-14 v (wrong h w) e = absurd (omega arith)
+    only-14 v (fine h w) e = absurd (omega arith)
 
-  only-fine : (n : ℕ) → Told o stored added n → n ≡ 0 → (lengthBy o (length stored) (length added) ≤ 256) × (loopsBy o stored added ≡ true)
-  only-fine n (fine h w) e = (h, w)
-  only-fine n (too-long h) e = absurd (omega arith)
-  only-fine n (wrong h w) e = absurd (omega arith)
+    only-15 : (v : Verdict) → Told a k o stored added v → verdictNumber v ≡ 15 → Busy a k ⊎ (256 < lengthBy o (length stored) (length added))
+    only-15 v (nothing h) e = absurd (omega arith)
+    only-15 v (at-work h) e = inl h
+    only-15 v (too-long h) e = inr h
+    only-15 v (wrong h w) e = absurd (omega arith)
+    only-15 v (fine h w) e = absurd (omega arith)
 
-  never-14 : {A : Type 0} (n : ℕ) → Told o stored added n → n ≡ 14 → A
-  never-14 n (fine h w) e = absurd (omega arith)
-  never-14 n (too-long h) e = absurd (omega arith)
-  never-14 n (wrong h w) e = absurd (omega arith)
+    only-3 : (v : Verdict) → Told a k o stored added v → verdictNumber v ≡ 3 → (lengthBy o (length stored) (length added) ≤ 256) × (loopsBy o stored added ≡ false)
+    only-3 v (nothing h) e = absurd (omega arith)
+    only-3 v (at-work h) e = absurd (omega arith)
+    only-3 v (too-long h) e = absurd (omega arith)
+    only-3 v (wrong h w) e = (h, w)
+    only-3 v (fine h w) e = absurd (omega arith)
 
-  long-told : (n : ℕ) → Told o stored added n → 256 < lengthBy o (length stored) (length added) → n ≡ 15
-  long-told n (fine k w) h = absurd (omega arith)
-  long-told n (too-long k) h = refl
-  long-told n (wrong k w) h = absurd (omega arith)
+    only-0 : (v : Verdict) → Told a k o stored added v → v ≡ Fine → (lengthBy o (length stored) (length added) ≤ 256) × (loopsBy o stored added ≡ true)
+    only-0 v (nothing h) e = let z : _≡_ {A = ℕ} 0 1 = cc in absurd (omega arith)
+    only-0 v (at-work h) e = let z : _≡_ {A = ℕ} 0 1 = cc in absurd (omega arith)
+    only-0 v (too-long h) e = let z : _≡_ {A = ℕ} 0 1 = cc in absurd (omega arith)
+    only-0 v (wrong h w) e = let z : _≡_ {A = ℕ} 0 1 = cc in absurd (omega arith)
+    only-0 v (fine h w) e = (h, w)
 
-  wrong-told : (n : ℕ) → Told o stored added n → lengthBy o (length stored) (length added) ≤ 256 → loopsBy o stored added ≡ false → n ≡ 3
-  wrong-told n (fine k w) h e = absurd (false≢true (sym e ∙ w))
-  wrong-told n (too-long k) h e = absurd (omega arith)
-  wrong-told n (wrong k w) h e = refl
+    known : (v : Verdict) → Told a k o stored added v → (verdictNumber v ≡ 0) ⊎ (verdictNumber v ≡ 3) ⊎ (verdictNumber v ≡ 14) ⊎ (verdictNumber v ≡ 15)
+    known v (nothing h) = inr (inr (inl refl))
+    known v (at-work h) = inr (inr (inr refl))
+    known v (too-long h) = inr (inr (inr refl))
+    known v (wrong h w) = inr (inl refl)
+    known v (fine h w) = inl refl
 
-told : (o : Order) (stored added : List ℕ) → Accepts o → Told o stored added (codeOf o stored added)
-unfolding codeOf
-told (O.Refuse code) stored added h = absurd h
-told (O.Replace true) stored added h = told-sized (O.Replace true) stored added _ _ refl refl
-told (O.Replace false) stored added h = told-sized (O.Replace false) stored added _ _ refl refl
-told O.Join stored added h = told-sized O.Join stored added _ _ refl refl
-told O.Begin stored added h = told-loops O.Begin stored added _ refl (omega arith)
-told O.Resume stored added h = fine (omega arith) refl
-told O.EndDelay stored added h = fine (omega arith) refl
-told O.Repeat stored added h = fine (omega arith) refl
-told O.Erase stored added h = fine (omega arith) refl
-told O.Halt stored added h = fine (omega arith) refl
-told O.Reset stored added h = fine (omega arith) refl
+  -- and always with it
+  long-always : (o : Order) → 256 < lengthBy o (length stored) (length added) → verdictOf o stored added ≡ Refused R.TooLong
+  unfolding verdictOf sized
+  long-always (O.Refuse why) h = absurd (omega arith)
+  long-always (O.Load l runs) h = rw (lt-ltb 256 _ h)
+  long-always (O.Change c) h = absurd (omega arith)
 
--- one exactly where the other, for every cell
-module _ (stored added : List ℕ) where
-  nothing-always : (a : Action) (s : State) → NothingToRun a s → codeOf (orderOf a s) stored added ≡ 14
-  unfolding orderOf codeOf
-  nothing-always a s run-empty = refl
-  nothing-always a s run-done = refl
-  nothing-always a s again-empty = refl
-  nothing-always a s again-stored = refl
-  nothing-always a s again-stopped = refl
-  nothing-always a s (again-delaying k) = refl
+  wrong-always : (o : Order) → lengthBy o (length stored) (length added) ≤ 256 → loopsBy o stored added ≡ false → verdictOf o stored added ≡ Refused R.Loops
+  unfolding verdictOf sized loopsBy
+  wrong-always (O.Refuse why) h e = absurd (false≢true (sym e))
+  wrong-always (O.Load l runs) h e = rw (le-ltb 256 _ h, e)
+  wrong-always (O.Change c) h e = rw e
 
-  busy-always : (a : Action) (s : State) → Busy a s → codeOf (orderOf a s) stored added ≡ 15
-  unfolding orderOf codeOf
-  busy-always a s (store k) = refl
-  busy-always a s (clear k) = refl
-  busy-always a s (launch k (initialising t)) = refl
-  busy-always a s (launch k (moving t)) = refl
-  busy-always a s (launch k between) = refl
-  busy-always a s (run k (initialising t)) = refl
-  busy-always a s (run k (moving t)) = refl
-  busy-always a s (run k between) = refl
-  busy-always a s (again k (initialising t)) = refl
-  busy-always a s (again k (moving t)) = refl
-  busy-always a s (again k between) = refl
+nothing-always : (a : Action) (k : Column) (stored added : List ℕ) → NothingToRun a k → verdictOf (cellOf a k) stored added ≡ Refused R.NothingToRun
+unfolding cellOf verdictOf
+nothing-always a k stored added run-empty = refl
+nothing-always a k stored added run-done = refl
+nothing-always a k stored added again-empty = refl
+nothing-always a k stored added again-stored = refl
+nothing-always a k stored added again-stopped = refl
+nothing-always a k stored added again-delaying = refl
 
-  module _ (a : Action) (s : State) where
-    only-14 : (o : Order) → Cell a s o → codeOf o stored added ≡ 14 → NothingToRun a s
-    unfolding codeOf
-    only-14 o (none h) e = h
-    only-14 o (full h) e = absurd (omega arith)
-    only-14 o (takes o₁ h) e = never-14 o stored added (codeOf o stored added) (told o stored added h) e
-
-    only-15 : (o : Order) → Cell a s o → orderOf a s ≡ o → codeOf o stored added ≡ 15 → TooMuch a s stored added
-    unfolding codeOf
-    only-15 o (none h) q e = absurd (omega arith)
-    only-15 o (full h) q e = busy h
-    only-15 o (takes o₁ h) q e = long (rw q (only-long o stored added (codeOf o stored added) (told o stored added h) e))
-
-    only-3 : (o : Order) → Cell a s o → orderOf a s ≡ o → codeOf o stored added ≡ 3 → WrongLoops a s stored added
-    unfolding codeOf
-    only-3 o (none h) q e = absurd (omega arith)
-    only-3 o (full h) q e = absurd (omega arith)
-    only-3 o (takes o₁ h) q e =
-        let w = only-wrong o stored added (codeOf o stored added) (told o stored added h) e in
-        record { fits = rw q (w .0); wrong = rw q (w .1) }
-
-    only-0 : (o : Order) → Cell a s o → codeOf o stored added ≡ 0 → (lengthBy o (length stored) (length added) ≤ 256) × (loopsBy o stored added ≡ true)
-    unfolding codeOf
-    only-0 o (none h) e = absurd (omega arith)
-    only-0 o (full h) e = absurd (omega arith)
-    only-0 o (takes o₁ h) e = only-fine o stored added (codeOf o stored added) (told o stored added h) e
-
-    long-always : (o : Order) → Cell a s o → 256 < lengthBy o (length stored) (length added) → codeOf o stored added ≡ 15
-    long-always o (none h) l = absurd (omega arith)
-    long-always o (full h) l = absurd (omega arith)
-    long-always o (takes o₁ h) l = long-told o stored added (codeOf o stored added) (told o stored added h) l
-
-    wrong-always : (o : Order) → Cell a s o → lengthBy o (length stored) (length added) ≤ 256 → loopsBy o stored added ≡ false → codeOf o stored added ≡ 3
-    wrong-always o (none h) l e = absurd (false≢true (sym e))
-    wrong-always o (full h) l e = absurd (false≢true (sym e))
-    wrong-always o (takes o₁ h) l e = wrong-told o stored added (codeOf o stored added) (told o stored added h) l e
-
-    too-much-always : TooMuch a s stored added → codeOf (orderOf a s) stored added ≡ 15
-    too-much-always (busy h) = busy-always a s h
-    too-much-always (long h) = long-always (orderOf a s) (cell a s) h
+busy-always : (a : Action) (k : Column) (stored added : List ℕ) → Busy a k → verdictOf (cellOf a k) stored added ≡ Refused R.Busy
+unfolding cellOf verdictOf
+busy-always a k stored added store = refl
+busy-always a k stored added store-delaying = refl
+busy-always a k stored added clear = refl
+busy-always a k stored added clear-delaying = refl
+busy-always a k stored added launch = refl
+busy-always a k stored added run = refl
+busy-always a k stored added again = refl
 
 -- "14", "15" and "3", each exactly where the table says
-module _ (a : Action) (added text : List ℕ) (c : Core) where
-  pub nothing-to-run-is-14 : Exactly (answerOf a added text c ≡ 14) (NothingToRun a (c .course .state))
+module _ (a : Action) (added : List ℕ) (d : Device) where
+  abbrev column : Column
+  column = columnOf (d .core .course .state)
+
+  answered : Told a column (cellOf a column) (storedIn d) added (verdictFor a added d)
+  answered = told a column (storedIn d) added (cellOf a column) (cell a column)
+
+  pub nothing-to-run-is-14 : Exactly (numberFor a added d ≡ 14) (NothingToRun a column)
   nothing-to-run-is-14 =
-      let s = c .course .state in
-      let stored = take (c .course .len) text in
-      record { only = only-14 stored added a s (orderOf a s) (cell a s); always = nothing-always stored added a s }
-
-  pub busy-or-too-long-is-15 : Exactly (answerOf a added text c ≡ 15) (TooMuch a (c .course .state) (take (c .course .len) text) added)
-  busy-or-too-long-is-15 =
-      let s = c .course .state in
-      let stored = take (c .course .len) text in
-      record { only = only-15 stored added a s (orderOf a s) (cell a s) refl; always = too-much-always stored added a s }
-
-  pub wrong-loops-are-3 : Exactly (answerOf a added text c ≡ 3) (WrongLoops a (c .course .state) (take (c .course .len) text) added)
-  wrong-loops-are-3 =
-      let s = c .course .state in
-      let stored = take (c .course .len) text in
       record {
-        only = only-3 stored added a s (orderOf a s) (cell a s) refl;
-        always = λ w. wrong-always stored added a s (orderOf a s) (cell a s) (w .fits) (w .wrong);
+        only = only-14 a column (storedIn d) added (cellOf a column) (verdictFor a added d) answered;
+        always = λ h. rw (nothing-always a column (storedIn d) added h);
+      }
+
+  pub busy-or-too-long-is-15 : Exactly (numberFor a added d ≡ 15) (TooMuch a (d .core .course .state) (storedIn d) added)
+  busy-or-too-long-is-15 = record { only = λ e. only (only-15 a column (storedIn d) added (cellOf a column) (verdictFor a added d) answered e); always = always }
+    where
+      only : Busy a column ⊎ (256 < lengthBy (cellOf a column) (length (storedIn d)) (length added)) → TooMuch a (d .core .course .state) (storedIn d) added
+      only (inl h) = busy h
+      only (inr h) = long h
+
+      always : TooMuch a (d .core .course .state) (storedIn d) added → numberFor a added d ≡ 15
+      always (busy h) = rw (busy-always a column (storedIn d) added h)
+      always (long h) = rw (long-always a column (storedIn d) added (cellOf a column) h)
+
+  pub wrong-loops-are-3 : Exactly (numberFor a added d ≡ 3) (WrongLoops a (d .core .course .state) (storedIn d) added)
+  wrong-loops-are-3 =
+      record {
+        only = λ e. let w = only-3 a column (storedIn d) added (cellOf a column) (verdictFor a added d) answered e in record { fits = w .0; wrong = w .1 };
+        always = λ w. rw (wrong-always a column (storedIn d) added (cellOf a column) (w .fits) (w .wrong));
       }
 
   -- and what is accepted fits, and its loops are right
-  pub what-is-accepted-fits : answerOf a added text c ≡ 0 → lengthBy (orderOf a (c .course .state)) (length (take (c .course .len) text)) (length added) ≤ 256
-  what-is-accepted-fits e = only-0 (take (c .course .len) text) added a (c .course .state) (orderOf a (c .course .state)) (cell a (c .course .state)) e .0
+  pub what-is-accepted-fits : verdictFor a added d ≡ Fine → lengthBy (cellOf a column) (length (storedIn d)) (length added) ≤ 256
+  what-is-accepted-fits e = only-0 a column (storedIn d) added (cellOf a column) (verdictFor a added d) answered e .0
 
-  pub what-is-accepted-loops : answerOf a added text c ≡ 0 → loopsBy (orderOf a (c .course .state)) (take (c .course .len) text) added ≡ true
-  what-is-accepted-loops e = only-0 (take (c .course .len) text) added a (c .course .state) (orderOf a (c .course .state)) (cell a (c .course .state)) e .1
+  pub what-is-accepted-loops : verdictFor a added d ≡ Fine → loopsBy (cellOf a column) (storedIn d) added ≡ true
+  what-is-accepted-loops e = only-0 a column (storedIn d) added (cellOf a column) (verdictFor a added d) answered e .1
 
   -- and there is no other refusal
-  pub no-other-refusal : (code : ℕ) → answerOf a added text c ≡ code → (code ≡ 0) ⊎ (code ≡ 3) ⊎ (code ≡ 14) ⊎ (code ≡ 15)
-  unfolding codeOf
-  no-other-refusal code e = go (orderOf a (c .course .state)) (cell a (c .course .state)) e
-    where
-      each : (o : Order) (n : ℕ) → Told o (take (c .course .len) text) added n → n ≡ code → (code ≡ 0) ⊎ (code ≡ 3) ⊎ (code ≡ 14) ⊎ (code ≡ 15)
-      each o n (fine h w) q = inl (sym q)
-      each o n (too-long h) q = inr (inr (inr (sym q)))
-      each o n (wrong h w) q = inr (inl (sym q))
-
-      go : (o : Order) → Cell a (c .course .state) o → codeOf o (take (c .course .len) text) added ≡ code → (code ≡ 0) ⊎ (code ≡ 3) ⊎ (code ≡ 14) ⊎ (code ≡ 15)
-      go o (none h) q = inr (inr (inl (sym q)))
-      go o (full h) q = inr (inr (inr (sym q)))
-      go o (takes o₁ h) q = each o (codeOf o (take (c .course .len) text) added) (told o (take (c .course .len) text) added h) q
+  pub no-other-refusal : (numberFor a added d ≡ 0) ⊎ (numberFor a added d ≡ 3) ⊎ (numberFor a added d ≡ 14) ⊎ (numberFor a added d ≡ 15)
+  no-other-refusal = known a column (storedIn d) added (cellOf a column) (verdictFor a added d) answered

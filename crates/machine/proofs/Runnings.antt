@@ -21,10 +21,10 @@ use Rattle.motion.specs.Motion as Motion
 use Rattle.buffer.specs.declared.course.State.{State}
 use Rattle.buffer.specs.declared.course.State.the-variants.{Empty, Running, Done}
 use Rattle.buffer.specs.declared.order.Action.the-variants.{Launch}
-use Rattle.buffer.specs.Course.{passOf, reached, goneOn, openedOf, closedBy, closedOf}
+use Rattle.buffer.specs.Course.{passOf, reached, openedOf, closedBy, closedOf}
 use Rattle.machine.specs.Step as Step
-use Rattle.buffer.specs.Order.{orderOf, sized, codeOf, laidBy, storedBy}
-use Rattle.machine.specs.Act.{doneOf, actedOf, actOf, textOf}
+use Rattle.buffer.specs.Order.{cellOf, loopsBy, sized, verdictOf, laidBy, storedBy}
+use Rattle.machine.specs.Act.{changedOf, doneOf, actedOf, actOf}
 use Rattle.machine.specs.Device.{freshOf, tickOf}
 use Rattle.machine.specs.History.{Call, callOf, afterOf, after}
 use Rattle.machine.specs.History.Call.{tick, act}
@@ -63,7 +63,7 @@ pub runs-loop-and-fail :
     ∷ shows Empty 0 0 7
     ∷ shows Empty 0 0 3
     ∷ []
-unfolding digit every valueOf over fits laidIn within rateOf millionthsOf goalOf goneOf run rest digits decimalsOf followedOf numberOf behindComma pairOf letterOf allowed takenOf wholeOf nanolitresOf made both inUnit volumeOf compensationOf commandOf placed foundIn commandAt readFrom readOf levelOf levels loopsOk Motion.plungerOf Motion.homeOf Motion.within Motion.targetOf Motion.setOut Motion.aimed Motion.moveOf Motion.effectOf Motion.carried Motion.onwardOf Motion.freshBody passOf reached goneOn openedOf closedBy closedOf Step.appliedOf Step.takenOf Step.carriedOn Step.activeOf Step.stepOf orderOf sized codeOf doneOf laidBy storedBy actedOf actOf textOf freshOf tickOf callOf afterOf after
+unfolding digit every valueOf over fits laidIn within rateOf millionthsOf goalOf goneOf run rest digits decimalsOf followedOf numberOf behindComma pairOf letterOf allowed takenOf wholeOf nanolitresOf made both inUnit volumeOf compensationOf commandOf placed foundIn commandAt readFrom readOf levelOf levels loopsOk Motion.plungerOf Motion.homeOf Motion.within Motion.targetOf Motion.setOut Motion.aimed Motion.moveOf Motion.effectOf Motion.carried Motion.onwardOf Motion.freshBody passOf reached openedOf closedBy closedOf Step.appliedOf Step.takenOf Step.carriedOn Step.runningOf Step.activeOf Step.stepOf cellOf loopsBy sized verdictOf changedOf doneOf laidBy storedBy actedOf actOf freshOf tickOf callOf afterOf after
 runs-loop-and-fail = refl
 
 -- the strings of such calls are texts that read, and so the device is on course

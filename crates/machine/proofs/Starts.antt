@@ -1,7 +1,7 @@
 -- What the history records, and when: "A fresh controller and initialising start it at 0, an absolute move at the exact place asked for,
 -- a stop that cuts a movement or a reset at the plunger"; between them stand the aspirations and dispenses that were carried out.
 use mathlib.Core.Path.{_≡_, refl}
-use mathlib.Core.Bool.{true, false, true≢false, false≢true}
+use mathlib.Core.Bool.{true, false}
 use mathlib.Core.List.{[], _∷_}
 use Prim.Native.Nat.{ℕ, _+_, _-_, _*_, _≤_}
 use Rattle.basics.proofs.Choice.{by}
@@ -12,13 +12,11 @@ use Rattle.command.specs.declared.Way.{Way}
 use Rattle.command.specs.declared.Way.the-variants.{To, Up, Down}
 use Rattle.motion.specs.declared.Body.{Body}
 use Rattle.motion.specs.declared.Activity.{Activity}
-use Rattle.motion.specs.declared.Activity.the-variants.{Initialising, Moving, Delaying, Between}
 use Rattle.motion.specs.declared.Effect.{Effect}
 use Rattle.motion.specs.declared.Target.the-variants.{Outside}
 use Rattle.motion.specs.Events.{start, volume, Turn}
-use Rattle.motion.specs.Motion.{freshBody, homeOf, within, targetOf, aimed, moveOf, cutOf, resetOf}
+use Rattle.motion.specs.Motion.{freshBody, homeOf, within, targetOf, aimed, moveOf, inMotion, cutOf, resetOf}
 use Rattle.machine.specs.Device.{freshOf}
-use Rattle.machine.specs.History.{inMotion}
 
 pub a-fresh-device-starts-at-0 : freshOf .events ≡ start 0 ∷ []
 unfolding freshOf freshBody
@@ -55,17 +53,11 @@ module _ (b : Body) where
   -- T
   pub a-cut-starts-at-the-plunger : (a : Activity) → inMotion a ≡ true → cutOf a b .events ≡ start (b .plunger * 1000000) ∷ []
   unfolding cutOf
-  a-cut-starts-at-the-plunger (Initialising t) h = refl
-  a-cut-starts-at-the-plunger (Moving t) h = refl
-  a-cut-starts-at-the-plunger (Delaying k) h = absurd (false≢true h)
-  a-cut-starts-at-the-plunger Between h = absurd (false≢true h)
+  a-cut-starts-at-the-plunger a h = rw h
 
   pub a-stop-without-movement-leaves-no-trace : (a : Activity) → inMotion a ≡ false → cutOf a b .events ≡ []
   unfolding cutOf
-  a-stop-without-movement-leaves-no-trace (Initialising t) h = absurd (true≢false h)
-  a-stop-without-movement-leaves-no-trace (Moving t) h = absurd (true≢false h)
-  a-stop-without-movement-leaves-no-trace (Delaying k) h = refl
-  a-stop-without-movement-leaves-no-trace Between h = refl
+  a-stop-without-movement-leaves-no-trace a h = rw h
 
   -- !R
   pub a-reset-starts-at-the-plunger : resetOf b .events ≡ start (b .plunger * 1000000) ∷ []

@@ -1,88 +1,116 @@
 -- Laws of `specs/Step`, one for each return of the code.
 use mathlib.Core.Path.{_≡_, refl, sym, ap, _∙_}
-use mathlib.Core.Bool.{Bool}
+use mathlib.Core.Bool.{Bool, true, false}
 use mathlib.Core.List.{List}
 use Prim.Native.Nat.{ℕ}
 use lib.ListN.{length, take}
-use Rattle.motion.specs.declared.Moment.{Moment}
-use Rattle.motion.specs.declared.Activity.{Activity}
-use Rattle.motion.specs.declared.Activity.the-variants.{Initialising, Moving, Delaying, Between}
-use Rattle.motion.specs.declared.Effect.{Effect}
-use Rattle.motion.specs.declared.Effect.the-variants.{Goes, Fails, Opens, Closes}
-use Rattle.motion.specs.Motion.{effectOf, onwardOf}
-use Rattle.motion.specs.Bounds.{ActivityOk}
 use Rattle.command.specs.declared.Command.{Command}
-use Rattle.command.specs.declared.Refusal.{Refusal}
+use Rattle.command.specs.declared.refusal.Misread.{Misread}
+use Rattle.command.specs.declared.refusal.Refusal.{Refusal}
+use Rattle.command.specs.declared.refusal.Refusal.the-variants as R
+use Rattle.command.specs.declared.refusal.Verdict.{Verdict}
+use Rattle.command.specs.declared.refusal.Verdict.the-variants.{Fine, Refused}
 use Rattle.command.specs.declared.Found.{Found}
 use Rattle.command.specs.declared.Found.the-variants as F
-use Rattle.command.specs.Command.{refusalNumber, commandAt}
+use Rattle.command.specs.Numbers.{firstOf}
+use Rattle.command.specs.Command.{commandAt}
+use Rattle.motion.specs.declared.Body.{Body}
+use Rattle.motion.specs.declared.Activity.{Activity}
+use Rattle.motion.specs.declared.Effect.{Effect}
+use Rattle.motion.specs.declared.Effect.the-variants.{Goes, Ends, Fails, Opens, Closes}
+use Rattle.motion.specs.Motion.{effectOf, onwardOf, between}
 use Rattle.buffer.specs.declared.course.State.{State}
 use Rattle.buffer.specs.declared.course.State.the-variants.{Running}
 use Rattle.buffer.specs.declared.course.Course.{Course}
-use Rattle.machine.specs.declared.step.Core.{Core}
+use Rattle.buffer.specs.declared.course.Went.{Went}
+use Rattle.buffer.specs.declared.course.Went.the-variants.{On, Off}
 use Rattle.buffer.specs.Course.{reached, goneOn, failedOf, openedOf, closedOf}
-use Rattle.machine.specs.Step.{core, appliedOf, takenOf, carriedOn, activeOf, stepOf}
+use Rattle.machine.specs.declared.step.Core.{Core}
+use Rattle.machine.specs.declared.step.Stepped.{Stepped}
+use Rattle.machine.specs.Step.{Around, around, core, stepped, fine, fails, wentOf, appliedOf, takenOf, carriedOn, runningOf, activeOf, stepOf, nextOf}
 use Rattle.machine.specs.Run.{readyIn}
-use Rattle.machine.specs.Valid.{StateOk, Valid, Ready, Ticking}
+use Rattle.machine.specs.Valid.{Ready, Ticking}
 
 pub ready-case : (s j : State) (b : Bool) → s ≡ j → b ≡ readyIn j → b ≡ readyIn s
 ready-case s j b p e = rw p e
 
--- what a command does
-module _ (e : Effect) (next : ℕ) (c : Core) (on : Course) where
-  pub goes : (m : Moment) → e ≡ Goes m → on ≡ goneOn (m .activity) next (c .course) → core (m .body) on ≡ appliedOf e next c
-  unfolding appliedOf
-  goes m p q = rw (p, q)
+pub failing : (why : Refusal) (b : Body) (c on : Course) → on ≡ failedOf why c → stepped (core b on) (Refused why) ≡ fails why b c
+failing why b c on e = rw e
 
-  pub fails : (code : ℕ) → e ≡ Fails code → on ≡ failedOf code (c .course) → core (c .body) on ≡ appliedOf e next c
-  unfolding appliedOf
-  fails code p q = rw (p, q)
+module _ (g : Went) (b : Body) (c : Course) where
+  pub went-on : (on : Course) → g ≡ On on → stepped (core b on) Fine ≡ wentOf g b c
+  went-on on e = rw e
 
-  pub opens : e ≡ Opens → on ≡ openedOf next (c .course) → core (c .body) on ≡ appliedOf e next c
-  unfolding appliedOf
-  opens p q = rw (p, q)
+  pub went-off : (why : Refusal) (r : Stepped) → g ≡ Off why → r ≡ fails why b c → r ≡ wentOf g b c
+  went-off why r e q = rw e q
 
-  pub closes : (n : ℕ) → e ≡ Closes n → on ≡ closedOf n next (c .course) → core (c .body) on ≡ appliedOf e next c
+-- what a command does, or a tick of what is in progress
+module _ (e : Effect) (next : ℕ) (c : Core) where
+  pub goes : (b : Body) (a : Activity) (on : Course) → e ≡ Goes b a → on ≡ goneOn a next (c .course) → fine (core b on) ≡ appliedOf e next c
   unfolding appliedOf
-  closes n p q = rw (p, q)
+  goes b a on p q = rw (p, q)
+
+  pub ends : (b : Body) (on : Course) → e ≡ Ends b → on ≡ reached next (c .course .loops) (c .course) → fine (core b on) ≡ appliedOf e next c
+  unfolding appliedOf
+  ends b on p q = rw (p, q)
+
+  pub fails-so : (why : Refusal) (b : Body) (r : Stepped) → e ≡ Fails why b → r ≡ fails why b (c .course) → r ≡ appliedOf e next c
+  unfolding appliedOf
+  fails-so why b r p q = rw p q
+
+  module _ (g : Went) (r : Stepped) (w : r ≡ wentOf g (c .body) (c .course)) where
+    pub opens : e ≡ Opens → g ≡ openedOf next (c .course) → r ≡ appliedOf e next c
+    unfolding appliedOf
+    opens p q = rw (p, ← q) w
+
+    pub closes : (n : ℕ) → e ≡ Closes n → g ≡ closedOf n next (c .course) → r ≡ appliedOf e next c
+    unfolding appliedOf
+    closes n p q = rw (p, ← q) w
 
 -- what is found
 module _ (f : Found) (c : Core) where
-  pub takes : (k : Command) (next : ℕ) (e : Effect) (r : Core) → f ≡ F.Command k next → e ≡ effectOf k (c .body) .next → r ≡ appliedOf e next c → r ≡ takenOf f c .next
+  pub takes : (k : Command) (next : ℕ) (e : Effect) (r : Stepped) → f ≡ F.Command k next → e ≡ effectOf k (c .body) .next → r ≡ appliedOf e next c → r ≡ takenOf f c .next
   unfolding takenOf
   takes k next e r p q h = rw (p, ← q) h
 
-  pub refuses : (x : Refusal) (code : ℕ) (on : Course) → f ≡ F.Refused x → code ≡ refusalNumber x → on ≡ failedOf code (c .course) → core (c .body) on ≡ takenOf f c .next
+  pub refuses : (m : Misread) (r : Stepped) → f ≡ F.Refused m → r ≡ fails (R.Misread m) (c .body) (c .course) → r ≡ takenOf f c .next
   unfolding takenOf
-  refuses x code on p q h = rw (p, h, q)
+  refuses m r p h = rw p h
 
-  pub ends : (on : Course) → f ≡ F.End → on ≡ reached (c .course .at) (c .course .loops) (c .course) → core (c .body) on ≡ takenOf f c .next
+  pub at-end : (on : Course) → f ≡ F.End → on ≡ reached (c .course .at) (c .course .loops) (c .course) → fine (core (c .body) on) ≡ takenOf f c .next
   unfolding takenOf
-  ends on p h = rw (p, h)
+  at-end on p h = rw (p, h)
 
-pub carries : (a : Activity) (c : Core) (m : Moment) (on : Course) → m ≡ onwardOf a (c .body) → on ≡ goneOn (m .activity) (c .course .at) (c .course) → core (m .body) on ≡ carriedOn a c
+pub carries : (a : Activity) (c : Core) (e : Effect) (r : Stepped) → e ≡ onwardOf a (c .body) .next → r ≡ appliedOf e (c .course .at) c → r ≡ carriedOn a c .next
 unfolding carriedOn
-carries a c m on p q = rw (q, p)
+carries a c e r p q = rw (← p) q
 
-pub reads-next : (c r : Core) (text : List ℕ) (f : Found) → f ≡ commandAt (take (c .course .len) text) (c .course .at) → r ≡ takenOf f c .next → r ≡ takenOf (commandAt (take (c .course .len) text) (c .course .at)) c .next
+pub reads-next : (c : Core) (r : Stepped) (text : List ℕ) (f : Found) → f ≡ commandAt (take (c .course .len) text) (c .course .at) → r ≡ takenOf f c .next → r ≡ takenOf (commandAt (take (c .course .len) text) (c .course .at)) c .next
 reads-next c r text f p e = rw (← p) e
 
--- a tick, by what is in progress
-pub active-case : (k j : Activity) (text : List ℕ) (c r : Core) → k ≡ j → r ≡ activeOf (Running j) text c .next → r ≡ activeOf (Running k) text c .next
-active-case k j text c r p e = rw p e
+-- a tick of a run: between two commands, or of what is in progress
+module _ (a : Activity) (text : List ℕ) (c : Core) (r : Stepped) (b : Bool) (e : b ≡ between a) where
+  pub takes-next : b ≡ true → r ≡ takenOf (commandAt (take (c .course .len) text) (c .course .at)) c .next → r ≡ runningOf a (around text) c .next
+  unfolding runningOf
+  takes-next h q = rw (← e, h) q
 
-pub active-ok : (k j : Activity) → ActivityOk k → k ≡ j → ActivityOk j
-active-ok k j ok e = rw e at ok
+  pub goes-on : b ≡ false → r ≡ carriedOn a c .next → r ≡ runningOf a (around text) c .next
+  unfolding runningOf
+  goes-on h q = rw (← e, h) q
 
-pub step-case : (j : State) (text : List ℕ) (c r : Core) → c .course .state ≡ j → r ≡ activeOf j text c .next → r ≡ stepOf text c .next
+pub step-case : (j : State) (w : Around) (c : Core) (r : Stepped) → c .course .state ≡ j → r ≡ activeOf j w c .next → r ≡ stepOf w c .next
 unfolding stepOf
-step-case j text c r p e = e ∙ ap (λ (s : State). activeOf s text c .next) (sym p)
+step-case j w c r p e = e ∙ ap (λ (s : State). activeOf s w c .next) (sym p)
+
+pub next-made : (w : Around) (s t : Stepped) (v : Verdict) → t ≡ stepOf w (s .core) .next → v ≡ firstOf (s .failed) (t .failed) → stepped (t .core) v ≡ nextOf w s
+unfolding nextOf
+next-made w s t v p q = rw (q, p)
 
 pub ticking : (c : Core) (a : Activity) (text : List ℕ) → Ready c text → c .course .state ≡ Running a → Ticking c a text
 ticking c a text r e =
     let l = r .valid .course .len in
     record { body = r .valid .body; activity = rw e at (r .valid .course .state); inside = rw (r .long) l }
 
-pub ruleset applying = (goes, fails, opens, closes)
+pub ruleset applying = (goes, ends, fails-so, opens, closes)
 
-pub ruleset taking = (takes, refuses, ends)
+pub ruleset taking = (takes, refuses, at-end)

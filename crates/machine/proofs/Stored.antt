@@ -8,14 +8,15 @@ use borrow.Author.Tests.{le-leb}
 use lib.ListN.{length, take, drop, length-append}
 use lib.Seq.{take-at, length-take-le}
 use Rattle.basics.specs.Lay.{over, fits, laidIn}
-use Rattle.machine.specs.declared.step.Core.{Core}
+use Rattle.command.specs.declared.refusal.Verdict.the-variants.{Fine}
+use Rattle.machine.specs.declared.Device.{Device}
 use Rattle.buffer.specs.declared.order.Action.{Action}
-use Rattle.buffer.specs.declared.order.Order.{Order}
+use Rattle.buffer.specs.declared.order.Loading.{Loading}
 use Rattle.buffer.specs.declared.order.Order.the-variants as O
-use Rattle.buffer.specs.Order.{orderOf, laidBy, storedBy}
-use Rattle.machine.specs.Act.{doneOf, actedOf, actOf, textOf}
+use Rattle.buffer.specs.Order.{orderOf, keptOf, laidBy, storedBy}
+use Rattle.machine.specs.Act.{doneOf, actedOf, actOf}
 use Rattle.machine.specs.Valid.{Ready}
-use Rattle.machine.specs.Refusals.{answerOf}
+use Rattle.machine.specs.Refusals.{storedIn, verdictFor}
 use Rattle.machine.proofs.Refusals.{what-is-accepted-fits}
 
 -- characters laid in from a place on, and what stands before them
@@ -29,32 +30,23 @@ take-laid xs at buf h =
 pub take-front : (xs buf : List ℕ) → length xs ≤ length buf → take (length xs) (laidIn xs 0 buf) ≡ xs
 take-front xs buf h = let z : 0 + length xs ≡ length xs = omega arith in rw z at (take-laid xs 0 buf (omega arith))
 
--- the text that a device holds after an order that was accepted
-abbrev heldBy : Order → List ℕ → List ℕ → Core → List ℕ
-heldBy o added text c = take (actedOf o 0 (length added) c .next .course .len) (storedBy o 0 (c .course .len) added text)
+loaded :
+    (l : Loading) (added : List ℕ) (d : Device) (run : Bool) →
+    take (keptOf l (d .core .course .len) + length added) (laidIn added (keptOf l (d .core .course .len)) (d .text)) ≡ take (keptOf l (d .core .course .len)) (d .text) ++ added →
+    take (actedOf (O.Load l run) Fine (length added) (d .core) .next .course .len) (storedBy (O.Load l run) Fine (d .core .course .len) added (d .text)) ≡
+    take (keptOf l (d .core .course .len)) (d .text) ++ added
+unfolding actedOf doneOf storedBy laidBy
+loaded l added d true e = e
+loaded l added d false e = e
 
-module _ (added text : List ℕ) (c : Core) where
-  replaced : (run : Bool) → length added ≤ length text → heldBy (O.Replace run) added text c ≡ added
-  unfolding actedOf doneOf storedBy laidBy
-  replaced true h = take-front added text h
-  replaced false h = take-front added text h
-
-  joined : c .course .len + length added ≤ length text → heldBy O.Join added text c ≡ take (c .course .len) text ++ added
-  unfolding actedOf doneOf storedBy laidBy
-  joined h = take-laid added (c .course .len) text h
-
-module _ (a : Action) (added text : List ℕ) (c : Core) (ready : Ready c text) (accepted : answerOf a added text c ≡ 0) where
-  -- a string that replaces: the text is what came, all of it
-  pub a-string-that-replaces-is-stored-whole : (run : Bool) → orderOf a (c .course .state) ≡ O.Replace run → take (actOf a added text c .next .course .len) (textOf a added text c) ≡ added
-  unfolding actOf textOf
-  a-string-that-replaces-is-stored-whole run e =
-      let fit = rw e at (what-is-accepted-fits a added text c accepted) in
-      rw (accepted, e) (replaced added text c run (omega (arith, ready .long)))
-
-  -- a string that is joined: the text is what was stored, and then what came
-  pub a-string-that-joins-is-stored-behind : orderOf a (c .course .state) ≡ O.Join → take (actOf a added text c .next .course .len) (textOf a added text c) ≡ take (c .course .len) text ++ added
-  unfolding actOf textOf
-  a-string-that-joins-is-stored-behind e =
-      let all = length-take-le (c .course .len) text (omega (arith, ready .valid .course .len, ready .long)) in
-      let fit = rw e at (what-is-accepted-fits a added text c accepted) in
-      rw (accepted, e) (joined added text c (omega (arith, ready .long)))
+-- a string that is loaded, behind the stored text or instead of it: the text is what was kept, and then what came, all of it
+pub a-string-that-is-loaded-is-stored-whole :
+    (a : Action) (added : List ℕ) (d : Device) (l : Loading) (run : Bool) → Ready (d .core) (d .text) → verdictFor a added d ≡ Fine →
+    orderOf a (d .core .course .state) ≡ O.Load l run →
+    storedIn (actOf a added d .next .device) ≡ take (keptOf l (d .core .course .len)) (d .text) ++ added
+unfolding actOf
+a-string-that-is-loaded-is-stored-whole a added d l run ready accepted e =
+    let c = d .core in
+    let all = length-take-le (c .course .len) (d .text) (omega (arith, ready .valid .course .len, ready .long)) in
+    let fit = rw (e, all) at (what-is-accepted-fits a added d accepted) in
+    rw (accepted, e) (loaded l added d run (take-laid added (keptOf l (c .course .len)) (d .text) (omega (arith, ready .long))))

@@ -1,20 +1,26 @@
--- 01, "The buffer": what an accepted string or control does to the plunger and the buffer.
-use Prim.Native.Nat.{ℕ, _+_}
+-- 01, "The buffer": what strings and controls do to the plunger and the buffer.
+use Prim.Native.Nat.{ℕ, _≤_}
+use mathlib.Core.Path.{_≡_}
 use mathlib.Core.List.{List}
-use lib.Dec.{eqb}
 use lib.ListN.{length, take}
 use Rattle.basics.specs.Choice.{if_then_else_}
+use Rattle.command.specs.declared.refusal.Verdict.{Verdict}
+use Rattle.command.specs.declared.refusal.Verdict.the-variants.{Fine, Refused}
+use Rattle.command.specs.Numbers.{refusalNumber}
 use Rattle.motion.specs.declared.Activity.the-variants.{Between}
 use Rattle.motion.specs.Events.{Turn, quiet}
 use Rattle.motion.specs.Motion.{cutOf, resetOf}
 use Rattle.buffer.specs.declared.course.State.{State}
 use Rattle.buffer.specs.declared.course.State.the-variants.{Empty, Stored, Running, Stopped, Done}
-use Rattle.machine.specs.declared.step.Core.{Core}
 use Rattle.buffer.specs.declared.order.Action.{Action}
+use Rattle.buffer.specs.declared.order.Change.{Change}
+use Rattle.buffer.specs.declared.order.Change.the-variants as C
 use Rattle.buffer.specs.declared.order.Order.{Order}
 use Rattle.buffer.specs.declared.order.Order.the-variants as O
 use Rattle.buffer.specs.Course.{inState, withError, reached, erasedOf, waiting, begun, halted}
-use Rattle.buffer.specs.Order.{orderOf, codeOf, storedBy}
+use Rattle.buffer.specs.Order.{orderOf, lengthBy, verdictOf, storedBy}
+use Rattle.machine.specs.declared.step.Core.{Core}
+use Rattle.machine.specs.declared.Device.{Device}
 use Rattle.machine.specs.Step.{core}
 
 unfoldable pub haltOf : State → Core → Turn Core
@@ -28,37 +34,54 @@ haltOf Done c = quiet c
 unfoldable pub stopOf : Core → Turn Core
 stopOf c = haltOf (c .course .state) c
 
--- what an accepted order does, with so many characters added
+-- what is done to the text that is there, and its run
+unfoldable pub changedOf : Change → Core → Turn Core
+changedOf C.Begin c = quiet (core (c .body) (begun (c .course .len) (c .course)))
+changedOf C.Resume c = quiet (core (c .body) (inState (Running Between) (c .course)))
+changedOf C.EndDelay c = quiet (core (c .body) (reached (c .course .at) (c .course .loops) (c .course)))
+changedOf C.Repeat c = quiet (core (c .body) (begun (c .course .len) (c .course)))
+changedOf C.Erase c = quiet (core (c .body) (erasedOf (c .course)))
+changedOf C.Halt c = stopOf c
+changedOf C.Reset c = let t = resetOf (c .body) in record { next = core (t .next) (erasedOf (c .course)); events = t .events }
+
+-- what an accepted order does, with so many characters added: what is loaded runs or waits
 unfoldable pub doneOf : Order → ℕ → Core → Turn Core
-doneOf (O.Refuse code) n c = quiet c
-doneOf (O.Replace run) n c = quiet (core (c .body) (if run then begun n (c .course) else waiting n (c .course)))
-doneOf O.Join n c = quiet (core (c .body) (begun (c .course .len + n) (c .course)))
-doneOf O.Begin n c = quiet (core (c .body) (begun (c .course .len) (c .course)))
-doneOf O.Resume n c = quiet (core (c .body) (inState (Running Between) (c .course)))
-doneOf O.EndDelay n c = quiet (core (c .body) (reached (c .course .at) (c .course .loops) (c .course)))
-doneOf O.Repeat n c = quiet (core (c .body) (begun (c .course .len) (c .course)))
-doneOf O.Erase n c = quiet (core (c .body) (erasedOf (c .course)))
-doneOf O.Halt n c = stopOf c
-doneOf O.Reset n c = let t = resetOf (c .body) in record { next = core (t .next) (erasedOf (c .course)); events = t .events }
+doneOf (O.Refuse why) n c = quiet c
+doneOf (O.Load loading run) n c =
+    let len = lengthBy (O.Load loading run) (c .course .len) n in
+    quiet (core (c .body) (if run then begun len (c .course) else waiting len (c .course)))
+doneOf (O.Change change) n c = changedOf change c
 
 -- "An accepted frame that isn't a report sets it to 0, a refused one to its code"; a refusal leaves everything else as it was
 abbrev pub coreError : ℕ → Core → Core
 coreError code c = core (c .body) (withError code (c .course))
 
-unfoldable pub actedOf : Order → ℕ → ℕ → Core → Turn Core
-actedOf order code n c =
-    if eqb code 0
-    then (let t = doneOf order n c in record { next = coreError 0 (t .next); events = t .events })
-    else quiet (coreError code c)
+unfoldable pub actedOf : Order → Verdict → ℕ → Core → Turn Core
+actedOf order Fine n c = let t = doneOf order n c in record { next = coreError 0 (t .next); events = t .events }
+actedOf order (Refused why) n c = quiet (coreError (refusalNumber why) c)
 
--- an action with the characters that come with it, over the text's array
-unfoldable pub actOf : Action → List ℕ → List ℕ → Core → Turn Core
-actOf action added text c =
-    let order = orderOf action (c .course .state) in
-    actedOf order (codeOf order (take (c .course .len) text) added) (length added) c
+-- what is accepted fits
+pub record Fitting (order : Order) (verdict : Verdict) (len n : ℕ) : Type 0 where
+  pub fits : verdict ≡ Fine → lengthBy order len n ≤ 256
 
--- and the array afterwards
-unfoldable pub textOf : Action → List ℕ → List ℕ → Core → List ℕ
-textOf action added text c =
+-- whether an order is refused, over a text of so many characters (a private function's promise)
+pub record Judged (order : Order) (text added : List ℕ) (len : ℕ) (verdict : Verdict) : Type 0 where
+  pub is : verdict ≡ verdictOf order (take len text) added
+  pub fitting : Fitting order verdict len (length added)
+
+-- a device after a string or a control, and whether that was refused
+pub record Acted : Type 0 where
+  pub device : Device
+  pub verdict : Verdict
+
+abbrev pub acted : List ℕ → Core → Verdict → Acted
+acted text c v = record { device = record { text = text; core = c }; verdict = v }
+
+-- a string or a control, with the characters that come with it: what the table asks, whether it is refused, and what is then done
+unfoldable pub actOf : Action → List ℕ → Device → Turn Acted
+actOf action added d =
+    let c = d .core in
     let order = orderOf action (c .course .state) in
-    storedBy order (codeOf order (take (c .course .len) text) added) (c .course .len) added text
+    let verdict = verdictOf order (take (c .course .len) (d .text)) added in
+    let turn = actedOf order verdict (length added) c in
+    record { next = acted (storedBy order verdict (c .course .len) added (d .text)) (turn .next) verdict; events = turn .events }

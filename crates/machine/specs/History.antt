@@ -4,15 +4,14 @@ use mathlib.Core.Path.{_≡_}
 use mathlib.Core.Bool.{Bool, true, false}
 use mathlib.Core.List.{List, [], _∷_, _++_}
 use Rattle.settings.specs.Units.{millionthsOf}
-use Rattle.motion.specs.declared.Activity.{Activity}
-use Rattle.motion.specs.declared.Activity.the-variants.{Initialising, Moving, Delaying, Between}
+use Rattle.motion.specs.Motion.{inMotion}
 use Rattle.motion.specs.Events.{Event, start, volume, Turn}
 use Rattle.buffer.specs.declared.course.State.{State}
 use Rattle.buffer.specs.declared.course.State.the-variants.{Empty, Stored, Running, Stopped, Done}
 use Rattle.buffer.specs.declared.order.Action.{Action}
 use Rattle.machine.specs.declared.Device.{Device}
-use Rattle.machine.specs.Act.{actOf, textOf}
-use Rattle.machine.specs.Device.{device, freshOf, tickOf, haltedOf}
+use Rattle.machine.specs.Act.{actOf}
+use Rattle.machine.specs.Device.{freshOf, tickOf, haltedOf}
 
 -- a call on a device: a tick, an action with the characters that come with it, the stop
 pub data Call : Type 0 where
@@ -21,10 +20,8 @@ pub data Call : Type 0 where
   stop : Call
 
 unfoldable pub callOf : Call → Device → Turn Device
-callOf tick d = tickOf d
-callOf (act a added) d =
-    let t = actOf a added (d .text) (d .core) in
-    record { next = device (textOf a added (d .text) (d .core)) (t .next); events = t .events }
+callOf tick d = let t = tickOf d in record { next = t .next .device; events = t .events }
+callOf (act a added) d = let t = actOf a added d in record { next = t .next .device; events = t .events }
 callOf stop d = haltedOf d
 
 -- the device after calls, first to last, and all that they add to the history, first to last
@@ -77,12 +74,6 @@ pub record StandsBy (plunger : ℕ) (s : Sum) : Type 0 where
   pub below : s .origin + s .ups ≤ plunger * 1000000 + s .downs + 500000
 
 -- whether a movement is in progress
-abbrev pub inMotion : Activity → Bool
-inMotion (Initialising t) = true
-inMotion (Moving t) = true
-inMotion (Delaying k) = false
-inMotion Between = false
-
 abbrev pub moving : State → Bool
 moving (Running a) = inMotion a
 moving Empty = false

@@ -8,6 +8,7 @@ use Rattle.motion.specs.declared.Activity.{Activity}
 use Rattle.motion.specs.Motion.{plungerOf, bodyAt, bodyKnown}
 use Rattle.buffer.specs.declared.course.State.the-variants.{Running}
 use Rattle.machine.specs.declared.step.Core.{Core}
+use Rattle.machine.specs.declared.step.Stepped.{Stepped}
 use Rattle.buffer.specs.Course.{inState, reached}
 use Rattle.machine.specs.Step.{core}
 
@@ -23,11 +24,12 @@ timeOf t = ticksFor (t .speed) (distanceOf (t .from) (t .goal))
 abbrev pub since : Travel → ℕ → Travel
 since t k = record { from = t .from; goal = t .goal; speed = t .speed; ticks = k }
 
--- the core d is the core c, in which a movement sets out, k ticks later and still moving: only the plunger and the count of ticks differ
-pub record UnderWay (kind : Travel → Activity) (t : Travel) (c : Core) (k : ℕ) (d : Core) : Type 0 where
-  pub plunger : 0 < k → d .body .plunger ≡ plungerOf (since t k)
-  pub body : bodyAt 0 (d .body) ≡ bodyAt 0 (c .body)
-  pub course : d .course ≡ inState (Running (kind (since t k))) (c .course)
+-- r is s, in which a movement sets out, k ticks later and still moving: only the plunger and the count of ticks differ
+pub record UnderWay (kind : Travel → Activity) (t : Travel) (s : Stepped) (k : ℕ) (r : Stepped) : Type 0 where
+  pub plunger : 0 < k → r .core .body .plunger ≡ plungerOf (since t k)
+  pub body : bodyAt 0 (r .core .body) ≡ bodyAt 0 (s .core .body)
+  pub course : r .core .course ≡ inState (Running (kind (since t k))) (s .core .course)
+  pub failed : r .failed ≡ s .failed
 
 -- the core in which it has ended: the plunger stands at the goal, and the next command is to be taken, or the text is done
 unfoldable pub arrivedOf : Bool → Travel → Core → Core

@@ -1,14 +1,15 @@
 -- On course: what holds of every device that comes from making and earlier calls. No function asks for it.
 use Prim.Native.Nat.{ℕ, _+_, _<_}
 use mathlib.Core.Path.{_≡_}
-use mathlib.Core.Bool.{true, false}
+use mathlib.Core.Bool.{Bool, true, false}
 use mathlib.Core.List.{List, [], _∷_}
 use lib.ListN.{length, take}
-use Rattle.motion.specs.declared.Activity.{Activity}
-use Rattle.motion.specs.declared.Activity.the-variants.{Initialising, Moving, Delaying, Between}
+use Rattle.command.specs.declared.refusal.Refusal.{Refusal}
+use Rattle.command.specs.declared.refusal.Refusal.the-variants as R
+use Rattle.motion.specs.declared.Activity.the-variants.{Between}
 use Rattle.motion.specs.declared.Body.{Body}
 use Rattle.motion.specs.declared.Target.the-variants.{Outside}
-use Rattle.motion.specs.Motion.{targetOf}
+use Rattle.motion.specs.Motion.{targetOf, between}
 use Rattle.settings.specs.declared.Volume.{Volume}
 use Rattle.settings.specs.Units.{millionthsOf}
 use Rattle.command.specs.declared.Way.{Way}
@@ -26,8 +27,7 @@ use Rattle.buffer.specs.declared.course.Course.{Course}
 use Rattle.machine.specs.declared.step.Core.{Core}
 use Rattle.buffer.specs.declared.order.Action.the-variants as A
 use Rattle.machine.specs.declared.Device.{Device}
-use Rattle.buffer.specs.Course.{failedOf}
-use Rattle.machine.specs.Step.{core, stepOf}
+use Rattle.machine.specs.Step.{around, fails, stepOf}
 use Rattle.machine.specs.History.{Call, tick, act, stop}
 
 -- each loop round a place has its mark: where the run goes back to, behind the loop's g
@@ -58,11 +58,10 @@ pub record Ahead (t : List ℕ) (at : ℕ) (l : Loops) : Type 0 where
   pub way : OnWay t at l
   pub left : at < length t
 
-abbrev pub AheadIn : Activity → List ℕ → ℕ → Loops → Type 0
-AheadIn Between t at l = Ahead t at l
-AheadIn (Initialising m) t at l = OnWay t at l
-AheadIn (Moving m) t at l = OnWay t at l
-AheadIn (Delaying k) t at l = OnWay t at l
+-- between two commands one is left; while one is in progress it may be the last
+abbrev pub AheadIf : Bool → List ℕ → ℕ → Loops → Type 0
+AheadIf true t at l = Ahead t at l
+AheadIf false t at l = OnWay t at l
 
 -- at the text's end
 pub record Through (t : List ℕ) (at : ℕ) (l : Loops) : Type 0 where
@@ -72,7 +71,7 @@ pub record Through (t : List ℕ) (at : ℕ) (l : Loops) : Type 0 where
 abbrev pub StateOn : State → List ℕ → ℕ → Loops → Type 0
 StateOn Empty t at l = Unit {0}
 StateOn Stored t at l = Loaded t
-StateOn (Running a) t at l = AheadIn a t at l
+StateOn (Running a) t at l = AheadIf (between a) t at l
 StateOn Stopped t at l = Ahead t at l
 StateOn Done t at l = Through t at l
 
@@ -119,18 +118,18 @@ pub record Meets (text : List ℕ) (c : Course) : Type 0 where
   pub back : (n : ℕ) → partOf command ≡ closes n → HasItsG (take (c .len) text) (record { at = c .at; command = command; next = next }) n (c .loops)
 
 -- a movement that a run can't carry out: "7 is checked before 3"
-pub data Failing (k : Command) (b : Body) : ℕ → Type 0 where
-  uninitialised : (way : Way) (v : Volume) → k ≡ C.Move way v → b .initialised ≡ false → Failing k b 7
+pub data Failing (k : Command) (b : Body) : Refusal → Type 0 where
+  uninitialised : (way : Way) (v : Volume) → k ≡ C.Move way v → b .initialised ≡ false → Failing k b R.NotInitialised
   outside :
       (way : Way) (v : Volume) → k ≡ C.Move way v → b .initialised ≡ true →
-      targetOf way (millionthsOf v (b .settings .rate)) (b .exact) ≡ Outside → Failing k b 3
+      targetOf way (millionthsOf v (b .settings .rate)) (b .exact) ≡ Outside → Failing k b R.Outside
 
 -- a tick in which a run fails
 pub record Fault (text : List ℕ) (c : Core) : Type 0 where
-  pub between : c .course .state ≡ Running Between
+  pub at-command : c .course .state ≡ Running Between
   pub command : Command
   pub next : ℕ
   pub found : commandAt (take (c .course .len) text) (c .course .at) ≡ F.Command command next
-  pub code : ℕ
-  pub why : Failing command (c .body) code
-  pub so : stepOf text c .next ≡ core (c .body) (failedOf code (c .course))
+  pub refusal : Refusal
+  pub why : Failing command (c .body) refusal
+  pub so : stepOf (around text) c .next ≡ fails refusal (c .body) (c .course)

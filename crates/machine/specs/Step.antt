@@ -2,56 +2,93 @@
 use Prim.Native.Nat.{ℕ}
 use mathlib.Core.List.{List}
 use lib.ListN.{take}
-use Rattle.motion.specs.declared.Body.{Body}
-use Rattle.motion.specs.declared.Moment.{Moment}
-use Rattle.motion.specs.declared.Activity.{Activity}
-use Rattle.motion.specs.declared.Activity.the-variants.{Initialising, Moving, Delaying, Between}
-use Rattle.motion.specs.declared.Effect.{Effect}
-use Rattle.motion.specs.declared.Effect.the-variants.{Goes, Fails, Opens, Closes}
-use Rattle.motion.specs.Events.{Turn, quiet}
-use Rattle.motion.specs.Motion.{effectOf, onwardOf}
+use Rattle.basics.specs.Choice.{if_then_else_}
+use Rattle.command.specs.declared.refusal.Refusal.{Refusal}
+use Rattle.command.specs.declared.refusal.Refusal.the-variants as R
+use Rattle.command.specs.declared.refusal.Verdict.{Verdict}
+use Rattle.command.specs.declared.refusal.Verdict.the-variants.{Fine, Refused}
 use Rattle.command.specs.declared.Found.{Found}
 use Rattle.command.specs.declared.Found.the-variants as F
-use Rattle.command.specs.Command.{refusalNumber, commandAt}
+use Rattle.command.specs.Numbers.{firstOf}
+use Rattle.command.specs.Command.{commandAt}
+use Rattle.motion.specs.declared.Body.{Body}
+use Rattle.motion.specs.declared.Activity.{Activity}
+use Rattle.motion.specs.declared.Effect.{Effect}
+use Rattle.motion.specs.declared.Effect.the-variants.{Goes, Ends, Fails, Opens, Closes}
+use Rattle.motion.specs.Events.{Turn, quiet}
+use Rattle.motion.specs.Motion.{effectOf, onwardOf, between}
 use Rattle.buffer.specs.declared.course.State.{State}
 use Rattle.buffer.specs.declared.course.State.the-variants.{Empty, Stored, Running, Stopped, Done}
 use Rattle.buffer.specs.declared.course.Course.{Course}
-use Rattle.machine.specs.declared.step.Core.{Core}
+use Rattle.buffer.specs.declared.course.Went.{Went}
+use Rattle.buffer.specs.declared.course.Went.the-variants.{On, Off}
 use Rattle.buffer.specs.Course.{reached, goneOn, failedOf, openedOf, closedOf}
+use Rattle.machine.specs.declared.step.Core.{Core}
+use Rattle.machine.specs.declared.step.Stepped.{Stepped}
+
+-- what surrounds a step: the text's array
+pub record Around : Type 0 where
+  pub text : List ℕ
+
+abbrev pub around : List ℕ → Around
+around text = record { text = text }
 
 abbrev pub core : Body → Course → Core
 core b c = record { body = b; course = c }
 
--- what a command does, the next one standing at a place
-unfoldable pub appliedOf : Effect → ℕ → Core → Core
-appliedOf (Goes m) next c = core (m .body) (goneOn (m .activity) next (c .course))
-appliedOf (Fails code) next c = core (c .body) (failedOf code (c .course))
-appliedOf Opens next c = core (c .body) (openedOf next (c .course))
-appliedOf (Closes n) next c = core (c .body) (closedOf n next (c .course))
+-- what a step hands back: the core, and why the run fails if it does
+abbrev pub stepped : Core → Verdict → Stepped
+stepped c v = record { core = c; failed = v }
+
+abbrev pub fine : Core → Stepped
+fine c = stepped c Fine
+
+-- "A refusal in a run sets the last error to its code and erases the text (Empty)"
+abbrev pub fails : Refusal → Body → Course → Stepped
+fails why b c = stepped (core b (failedOf why c)) (Refused why)
+
+-- g and G: the run goes on, or fails
+abbrev pub wentOf : Went → Body → Course → Stepped
+wentOf (On on) b c = fine (core b on)
+wentOf (Off why) b c = fails why b c
+
+-- what a command that is taken does, or a tick of what is in progress, the next command standing at a place
+unfoldable pub appliedOf : Effect → ℕ → Core → Stepped
+appliedOf (Goes b a) next c = fine (core b (goneOn a next (c .course)))
+appliedOf (Ends b) next c = fine (core b (reached next (c .course .loops) (c .course)))
+appliedOf (Fails why b) next c = fails why b (c .course)
+appliedOf Opens next c = wentOf (openedOf next (c .course)) (c .body) (c .course)
+appliedOf (Closes n) next c = wentOf (closedOf n next (c .course)) (c .body) (c .course)
+
+abbrev pub applies : Turn Effect → ℕ → Core → Turn Stepped
+applies t next c = record { next = appliedOf (t .next) next c; events = t .events }
 
 -- "Running between commands, a tick takes one command, g and G included."
-unfoldable pub takenOf : Found → Core → Turn Core
-takenOf (F.Command k next) c =
-    let t = effectOf k (c .body) in
-    record { next = appliedOf (t .next) next c; events = t .events }
-takenOf (F.Refused r) c = quiet (core (c .body) (failedOf (refusalNumber r) (c .course)))
-takenOf F.End c = quiet (core (c .body) (reached (c .course .at) (c .course .loops) (c .course)))
+unfoldable pub takenOf : Found → Core → Turn Stepped
+takenOf (F.Command k next) c = applies (effectOf k (c .body)) next c
+takenOf (F.Refused m) c = quiet (fails (R.Misread m) (c .body) (c .course))
+takenOf F.End c = quiet (fine (core (c .body) (reached (c .course .at) (c .course .loops) (c .course))))
 
 -- "Movement and delay advance from the next tick."
-unfoldable pub carriedOn : Activity → Core → Core
-carriedOn a c = let m = onwardOf a (c .body) in core (m .body) (goneOn (m .activity) (c .course .at) (c .course))
+unfoldable pub carriedOn : Activity → Core → Turn Stepped
+carriedOn a c = applies (onwardOf a (c .body)) (c .course .at) c
 
--- what is in progress goes on a tick; "in a ready state nothing advances"
-unfoldable pub activeOf : State → List ℕ → Core → Turn Core
-activeOf (Running (Initialising t)) text c = quiet (carriedOn (Initialising t) c)
-activeOf (Running (Moving t)) text c = quiet (carriedOn (Moving t) c)
-activeOf (Running (Delaying k)) text c = quiet (carriedOn (Delaying k) c)
-activeOf (Running Between) text c = takenOf (commandAt (take (c .course .len) text) (c .course .at)) c
-activeOf Empty text c = quiet c
-activeOf Stored text c = quiet c
-activeOf Stopped text c = quiet c
-activeOf Done text c = quiet c
+unfoldable pub runningOf : Activity → Around → Core → Turn Stepped
+runningOf a w c =
+    if between a then takenOf (commandAt (take (c .course .len) (w .text)) (c .course .at)) c else carriedOn a c
 
--- a tick of the core over the text's array
-unfoldable pub stepOf : List ℕ → Core → Turn Core
-stepOf text c = activeOf (c .course .state) text c
+-- "in a ready state nothing advances"
+unfoldable pub activeOf : State → Around → Core → Turn Stepped
+activeOf (Running a) w c = runningOf a w c
+activeOf Empty w c = quiet (fine c)
+activeOf Stored w c = quiet (fine c)
+activeOf Stopped w c = quiet (fine c)
+activeOf Done w c = quiet (fine c)
+
+-- a tick of the core in its surroundings
+unfoldable pub stepOf : Around → Core → Turn Stepped
+stepOf w c = activeOf (c .course .state) w c
+
+-- a tick more, after what was handed back: the first failure counts
+unfoldable pub nextOf : Around → Stepped → Stepped
+nextOf w s = let t = stepOf w (s .core) .next in stepped (t .core) (firstOf (s .failed) (t .failed))

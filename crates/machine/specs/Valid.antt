@@ -20,6 +20,7 @@ StateOk Done = Unit {0}
 pub record CourseOk (c : Course) : Type 0 where
   pub len : c .len ≤ 256
   pub state : StateOk (c .state)
+  pub error : c .error ≤ 15
 
 pub record Valid (c : Core) : Type 0 where
   pub body : BodyOk (c .body)

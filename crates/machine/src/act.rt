@@ -2,13 +2,36 @@
 use crate::step::Core;
 use buffer::course::Course;
 use buffer::course::State;
+use buffer::order;
+use buffer::order::Action;
+use buffer::order::Change;
 use buffer::order::Order;
+use command::refusal::Verdict;
 use motion::Activity;
 ghost use mathlib.Core.Path.{_≡_};
-ghost use Prim.Native.Nat.{_+_, _<_, _^_};
+ghost use Prim.Native.Nat.{_≤_};
+ghost use lib.ListN.{length};
+ghost use Rattle.basics.specs.Choice.{if_then_else_};
+ghost use Rattle.buffer.specs.Course.{waiting, begun};
+ghost use Rattle.buffer.specs.Order.{lengthBy};
 ghost use Rattle.machine.specs.Valid.{Valid};
 ghost use Rattle.machine.specs.Step.{core};
-ghost use Rattle.machine.specs.Act.{haltOf, stopOf, doneOf, coreError, actedOf};
+ghost use Rattle.machine.specs.Act.{haltOf, stopOf, changedOf, doneOf, coreError, actedOf, Fitting, Judged, acted, actOf};
+ghost use Rattle.machine.specs.Device.{device};
+
+// What a string or a control leaves of a core, and whether it was refused.
+pub struct Done {
+    pub core: Core,
+    pub verdict: Verdict,
+}
+
+// Whether an order is refused, over a text of so many characters.
+fn judge(order: Order, text: &[u8], len: usize, added: &[u8]) -> Verdict
+    requires { ⌜ len ≤ length (now text) ⌝ }
+    ensures { λ r. ⌜ Judged order (now (text .entry)) (now (added .entry)) len r ⌝ }
+{
+    order.verdict(&text[..len], added)
+}
 
 impl Core {
     // T: what is in progress is cut or dropped.
@@ -42,7 +65,7 @@ impl Core {
 
     // !R.
     fn reset(self) -> Core
-        ensures { λ r. ⌜ r ≡ doneOf Order.Reset 0 self .next ⌝ }
+        ensures { λ r. ⌜ r ≡ changedOf Change.Reset self .next ⌝ }
     {
         let body = self.body;
         let course = self.course;
@@ -62,29 +85,28 @@ impl Core {
         Core { body, course }
     }
 
-    // A string of n characters that replaces the text.
-    fn replace(self, run: bool, n: usize) -> Core
-        ensures { λ r. ⌜ r ≡ doneOf (Order.Replace run) n self .next ⌝ }
+    // A text of so many characters runs, or waits.
+    fn load(self, run: bool, len: usize) -> Core
+        ensures { λ r. ⌜ r ≡ core (self .body) (if run then begun len (self .course) else waiting len (self .course)) ⌝ }
     {
         let course = self.course;
         if run {
-            return self.on(course.begin(n));
+            return self.on(course.begin(len));
         }
-        self.on(course.wait(n))
+        self.on(course.wait(len))
     }
 
-    // The text runs from its start, with n characters more.
-    fn start(self, n: usize) -> Core
-        requires { ⌜ self .course .len + n < 2 ^ 64 ⌝ }
-        ensures { λ r. ⌜ r ≡ doneOf Order.Join n self .next ⌝ }
+    // The text runs from its start.
+    fn start(self) -> Core
+        ensures { λ r. ⌜ r ≡ changedOf Change.Begin self .next ⌝ }
     {
         let course = self.course;
-        let len = course.len + n;
+        let len = course.len;
         self.on(course.begin(len))
     }
 
     fn resume(self) -> Core
-        ensures { λ r. ⌜ r ≡ doneOf Order.Resume 0 self .next ⌝ }
+        ensures { λ r. ⌜ r ≡ changedOf Change.Resume self .next ⌝ }
     {
         let course = self.course;
         self.on(course.in_state(State::Running(Activity::Between)))
@@ -92,7 +114,7 @@ impl Core {
 
     // R in a delay.
     fn end_delay(self) -> Core
-        ensures { λ r. ⌜ r ≡ doneOf Order.EndDelay 0 self .next ⌝ }
+        ensures { λ r. ⌜ r ≡ changedOf Change.EndDelay self .next ⌝ }
     {
         let course = self.course;
         let at = course.at;
@@ -101,28 +123,40 @@ impl Core {
     }
 
     fn clear(self) -> Core
-        ensures { λ r. ⌜ r ≡ doneOf Order.Erase 0 self .next ⌝ }
+        ensures { λ r. ⌜ r ≡ changedOf Change.Erase self .next ⌝ }
     {
         let course = self.course;
         self.on(course.erase())
     }
 
+    fn change(self, change: Change) -> Core
+        ensures { λ r. ⌜ r ≡ changedOf change self .next ⌝ }
+    {
+        match change {
+            Change::Begin => self.start(),
+            Change::Resume => self.resume(),
+            Change::EndDelay => self.end_delay(),
+            Change::Repeat => self.start(),
+            Change::Erase => self.clear(),
+            Change::Halt => self.stop(),
+            Change::Reset => self.reset(),
+        }
+    }
+
     // An accepted order, with n characters.
     fn done(self, order: Order, n: usize) -> Core
-        requires { ⌜ self .course .len + n < 2 ^ 64 ⌝ }
+        requires { ⌜ lengthBy order (self .course .len) n ≤ 256 ⌝ }
         ensures { λ r. ⌜ r ≡ doneOf order n self .next ⌝ }
     {
+        let course = self.course;
         match order {
             Order::Refuse(_) => self,
-            Order::Replace(run) => self.replace(run, n),
-            Order::Join => self.start(n),
-            Order::Begin => self.start(0),
-            Order::Resume => self.resume(),
-            Order::EndDelay => self.end_delay(),
-            Order::Repeat => self.start(0),
-            Order::Erase => self.clear(),
-            Order::Halt => self.stop(),
-            Order::Reset => self.reset(),
+            Order::Load(loading, run) => {
+                let kept = loading.kept(course.len);
+                let len = kept + n;
+                self.load(run, len)
+            }
+            Order::Change(change) => self.change(change),
         }
     }
 
@@ -133,14 +167,29 @@ impl Core {
         self.on(course.with_error(code))
     }
 
-    // An order that was accepted (code 0) or refused, with n characters.
-    pub fn act(self, order: Order, code: u8, n: u16) -> Core
-        requires { ⌜ Valid self ⌝ }
-        ensures { λ r. ⌜ r ≡ actedOf order code n self .next ⌝ }
+    // An order that was accepted or refused, with n characters.
+    fn acted(self, order: Order, verdict: Verdict, n: usize) -> Core
+        requires { ⌜ Fitting order verdict (self .course .len) n ⌝ }
+        ensures { λ r. ⌜ r ≡ actedOf order verdict n self .next ⌝ }
     {
-        if code == 0 {
-            return self.done(order, n as usize).with_error(0);
+        match verdict {
+            Verdict::Fine => self.done(order, n).with_error(0),
+            Verdict::Refused(why) => self.with_error(why.number()),
         }
-        self.with_error(code)
+    }
+
+    // A string or a control with the characters that come with it, over the text's array.
+    pub fn act(self, action: Action, added: &[u8], text: &mut [u8; 256]) -> Done
+        requires { ⌜ Valid self ⌝ }
+        ensures { λ r. ⌜ acted (now (text .exit)) (r .core) (r .verdict) ≡ actOf action (now (added .entry)) (device (now (text .entry)) self) .next ⌝ }
+    {
+        let course = self.course;
+        let state = course.state;
+        let len = course.len;
+        let order = action.order(state);
+        let verdict = judge(order, text, len, added);
+        order::store(order, verdict, len, added, text);
+        let core = self.acted(order, verdict, added.len());
+        Done { core, verdict }
     }
 }

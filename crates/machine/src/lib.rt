@@ -6,6 +6,7 @@ pub mod step;
 use buffer::course::Course;
 use buffer::course::Loops;
 use buffer::course::State;
+use command::refusal::Verdict;
 use motion::Body;
 use step::Core;
 ghost use mathlib.Core.Path.{_≡_};
@@ -24,8 +25,14 @@ pub enum Used {
     S3,
 }
 
-pub struct Ran {
+// A device after ticks, and why its run fails if it does.
+pub struct Turned {
     pub device: Device,
+    pub failed: Verdict,
+}
+
+pub struct Ran {
+    pub turned: Turned,
     pub used: Used,
 }
 
@@ -49,7 +56,7 @@ impl Device {
     }
 
     // A tick of 10 ms.
-    pub fn tick(self) -> Device
+    pub fn tick(self) -> Turned
         requires { ⌜ Valid (self .core) ⌝ }
         ensures { λ r. ⌜ r ≡ tickOf self .next ⌝ }
     {
@@ -57,15 +64,20 @@ impl Device {
     }
 
     // Exactly n ticks, ready or not.
-    pub fn advance(self, n: u32) -> Device
+    pub fn advance(self, n: u32) -> Turned
         requires { ⌜ Valid (self .core) ⌝ }
         ensures { λ r. ⌜ r ≡ advanceOf n self ⌝ }
     {
         let text = self.text;
         let core = self.core;
         let ticked = step::run(core, &text, n);
-        let after = ticked.core;
-        Device { text, core: after }
+        let stepped = ticked.stepped;
+        let after = stepped.core;
+        let failed = stepped.failed;
+        Turned {
+            device: Device { text, core: after },
+            failed,
+        }
     }
 
     // Up to n ticks, until ready.
@@ -75,17 +87,25 @@ impl Device {
     {
         if 60_000 < n {
             return Ran {
-                device: self,
+                turned: Turned {
+                    device: self,
+                    failed: Verdict::Fine,
+                },
                 used: Used::S3,
             };
         }
         let text = self.text;
         let core = self.core;
         let ticked = step::run(core, &text, n);
-        let after = ticked.core;
+        let stepped = ticked.stepped;
+        let after = stepped.core;
+        let failed = stepped.failed;
         let used = ticked.used;
         Ran {
-            device: Device { text, core: after },
+            turned: Turned {
+                device: Device { text, core: after },
+                failed,
+            },
             used: Used::Ticks(used),
         }
     }

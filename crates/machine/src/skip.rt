@@ -1,6 +1,5 @@
 // A movement's ticks before the one in which it arrives, passed over at once: where the plunger is follows from their count.
 use crate::step::Core;
-use crate::step::Ticked;
 use buffer::course::Course;
 use buffer::course::State;
 use motion::Activity;
@@ -11,6 +10,12 @@ ghost use Rattle.motion.specs.Bounds.{TravelOk, ActivityOk};
 ghost use Rattle.machine.specs.Valid.{Valid};
 ghost use Rattle.machine.specs.Movement.{distanceOf, timeOf, since};
 ghost use Rattle.machine.specs.Skip.{Spare, passedBy, skippedIn, skippedOf};
+
+// A core, and how many ticks were passed over to come there.
+pub struct Skipped {
+    pub core: Core,
+    pub used: u32,
+}
 
 fn distance(from: u32, goal: u32) -> u32
     ensures { λ r. ⌜ r ≡ distanceOf «from» goal ⌝ }
@@ -71,7 +76,7 @@ fn later(t: Travel, n: u32) -> Travel
 }
 
 impl Core {
-    fn pass(self, activity: Activity, n: u32) -> Ticked
+    fn pass(self, activity: Activity, n: u32) -> Skipped
         ensures { λ r. ⌜ r ≡ passedBy activity n self ⌝ }
     {
         let body = self.body;
@@ -80,7 +85,7 @@ impl Core {
         let len = course.len;
         let loops = course.loops;
         let error = course.error;
-        Ticked {
+        Skipped {
             core: Core {
                 body,
                 course: Course {
@@ -96,7 +101,7 @@ impl Core {
     }
 
     // By what is in progress.
-    fn skip_in(self, activity: Activity, most: u32) -> Ticked
+    fn skip_in(self, activity: Activity, most: u32) -> Skipped
         requires { ⌜ ActivityOk activity ⌝ }
         ensures { λ r. ⌜ r ≡ skippedIn (State.Running activity) most self ⌝ }
     {
@@ -109,38 +114,38 @@ impl Core {
                 let n = spare(t, most);
                 self.pass(Activity::Moving(later(t, n)), n)
             }
-            Activity::Delaying(_) => Ticked {
+            Activity::Delaying(_) => Skipped {
                 core: self,
                 used: 0,
             },
-            Activity::Between => Ticked {
+            Activity::Between => Skipped {
                 core: self,
                 used: 0,
             },
         }
     }
 
-    pub fn skip(self, most: u32) -> Ticked
+    pub fn skip(self, most: u32) -> Skipped
         requires { ⌜ Valid self ⌝ }
         ensures { λ r. ⌜ r ≡ skippedOf most self ⌝ }
     {
         let course = self.course;
         let state = course.state;
         match state {
-            State::Empty => Ticked {
+            State::Empty => Skipped {
                 core: self,
                 used: 0,
             },
-            State::Stored => Ticked {
+            State::Stored => Skipped {
                 core: self,
                 used: 0,
             },
             State::Running(activity) => self.skip_in(activity, most),
-            State::Stopped => Ticked {
+            State::Stopped => Skipped {
                 core: self,
                 used: 0,
             },
-            State::Done => Ticked {
+            State::Done => Skipped {
                 core: self,
                 used: 0,
             },

@@ -1,7 +1,10 @@
 // One tick, and many.
 use buffer::course::Course;
 use buffer::course::State;
+use buffer::course::Went;
 use command::Found;
+use command::refusal::Refusal;
+use command::refusal::Verdict;
 use motion::Activity;
 use motion::Body;
 use motion::Effect;
@@ -9,7 +12,7 @@ ghost use mathlib.Core.Path.{_≡_};
 ghost use Prim.Native.Nat.{_≤_};
 ghost use lib.ListN.{length, take};
 ghost use Rattle.command.specs.Command.{commandAt};
-ghost use Rattle.machine.specs.Step.{appliedOf, takenOf, carriedOn, activeOf, stepOf};
+ghost use Rattle.machine.specs.Step.{around, fine, fails, wentOf, appliedOf, takenOf, carriedOn, runningOf, stepOf, nextOf};
 ghost use Rattle.machine.specs.Run.{readyOf, runOf};
 ghost use Rattle.machine.specs.Skip.{leaptOf};
 ghost use Rattle.machine.specs.Valid.{Ticking, Ready};
@@ -20,9 +23,15 @@ pub struct Core {
     pub course: Course,
 }
 
-// A core, and how many ticks it took to come there.
-pub struct Ticked {
+// What a tick hands back: the core, and why the run fails if it does.
+pub struct Stepped {
     pub core: Core,
+    pub failed: Verdict,
+}
+
+// What ticks hand back, and how many they were.
+pub struct Ticked {
+    pub stepped: Stepped,
     pub used: u32,
 }
 
@@ -32,6 +41,30 @@ fn command_in(text: &[u8], len: usize, at: usize) -> Found
     ensures { λ r. ⌜ r ≡ commandAt (take len (now (text .entry))) at ⌝ }
 {
     command::command_at(&text[..len], at)
+}
+
+// The run fails: all ways in which one does pass here.
+fn fail(why: Refusal, body: Body, course: Course) -> Stepped
+    ensures { λ r. ⌜ r ≡ fails why body course ⌝ }
+{
+    let off = course.failed(why);
+    Stepped {
+        core: Core { body, course: off },
+        failed: Verdict::Refused(why),
+    }
+}
+
+// The run goes on, or fails, by its loops.
+fn went(went: Went, body: Body, course: Course) -> Stepped
+    ensures { λ r. ⌜ r ≡ wentOf went body course ⌝ }
+{
+    match went {
+        Went::On(on) => Stepped {
+            core: Core { body, course: on },
+            failed: Verdict::Fine,
+        },
+        Went::Off(why) => fail(why, body, course),
+    }
 }
 
 impl Core {
@@ -49,39 +82,51 @@ impl Core {
         }
     }
 
-    // What a command does, the next one standing at `next`.
-    fn apply(self, effect: Effect, next: usize) -> Core
+    fn fine(self) -> Stepped
+        ensures { λ r. ⌜ r ≡ fine self ⌝ }
+    {
+        Stepped {
+            core: self,
+            failed: Verdict::Fine,
+        }
+    }
+
+    // What a command does, or a tick of what is in progress, the next command standing at `next`.
+    fn apply(self, effect: Effect, next: usize) -> Stepped
         ensures { λ r. ⌜ r ≡ appliedOf effect next self ⌝ }
     {
         let body = self.body;
         let course = self.course;
         match effect {
-            Effect::Goes(m) => {
-                let after = m.body;
-                let activity = m.activity;
+            Effect::Goes(after, activity) => {
                 let on = course.go_on(activity, next);
-                Core {
-                    body: after,
-                    course: on,
+                Stepped {
+                    core: Core {
+                        body: after,
+                        course: on,
+                    },
+                    failed: Verdict::Fine,
                 }
             }
-            Effect::Fails(code) => {
-                let off = course.failed(code);
-                Core { body, course: off }
+            Effect::Ends(after) => {
+                let loops = course.loops;
+                let on = course.reach(next, loops);
+                Stepped {
+                    core: Core {
+                        body: after,
+                        course: on,
+                    },
+                    failed: Verdict::Fine,
+                }
             }
-            Effect::Opens => {
-                let on = course.open(next);
-                Core { body, course: on }
-            }
-            Effect::Closes(n) => {
-                let on = course.close(n, next);
-                Core { body, course: on }
-            }
+            Effect::Fails(why, after) => fail(why, after, course),
+            Effect::Opens => went(course.open(next), body, course),
+            Effect::Closes(n) => went(course.close(n, next), body, course),
         }
     }
 
     // The next command is taken.
-    fn take(self, found: Found) -> Core
+    fn take(self, found: Found) -> Stepped
         requires { ⌜ BodyOk (self .body) ⌝ }
         ensures { λ r. ⌜ r ≡ takenOf found self .next ⌝ }
     {
@@ -89,39 +134,32 @@ impl Core {
         let course = self.course;
         match found {
             Found::Command(c, next) => self.apply(body.effect(c), next),
-            Found::Refused(r) => {
-                let off = course.failed(r.number());
-                Core { body, course: off }
-            }
+            Found::Refused(m) => fail(Refusal::Misread(m), body, course),
             Found::End => {
                 let at = course.at;
                 let loops = course.loops;
                 let on = course.reach(at, loops);
-                Core { body, course: on }
+                Stepped {
+                    core: Core { body, course: on },
+                    failed: Verdict::Fine,
+                }
             }
         }
     }
 
     // What is in progress goes on.
-    fn carry_on(self, activity: Activity) -> Core
+    fn carry_on(self, activity: Activity) -> Stepped
         requires { ⌜ ActivityOk activity ⌝ }
-        ensures { λ r. ⌜ r ≡ carriedOn activity self ⌝ }
+        ensures { λ r. ⌜ r ≡ carriedOn activity self .next ⌝ }
     {
         let body = self.body;
         let course = self.course;
         let at = course.at;
-        let m = body.onward(activity);
-        let after = m.body;
-        let next = m.activity;
-        let on = course.go_on(next, at);
-        Core {
-            body: after,
-            course: on,
-        }
+        self.apply(body.onward(activity), at)
     }
 
     // The command at the place that the course has reached.
-    fn next(self, text: &[u8]) -> Core
+    fn next(self, text: &[u8]) -> Stepped
         requires { ⌜ BodyOk (self .body) × (self .course .len ≤ length (now text)) ⌝ }
         ensures { λ r. ⌜ r ≡ takenOf (commandAt (take (self .course .len) (now (text .entry))) (self .course .at)) self .next ⌝ }
     {
@@ -131,63 +169,93 @@ impl Core {
         self.take(command_in(text, len, at))
     }
 
-    // What is in progress goes on a tick.
-    fn active(self, activity: Activity, text: &[u8]) -> Core
+    // A tick of a run.
+    fn active(self, activity: Activity, text: &[u8]) -> Stepped
         requires { ⌜ Ticking self activity (now text) ⌝ }
-        ensures { λ r. ⌜ r ≡ activeOf (State.Running activity) (now (text .entry)) self .next ⌝ }
+        ensures { λ r. ⌜ r ≡ runningOf activity (around (now (text .entry))) self .next ⌝ }
     {
-        match activity {
-            Activity::Initialising(t) => self.carry_on(Activity::Initialising(t)),
-            Activity::Moving(t) => self.carry_on(Activity::Moving(t)),
-            Activity::Delaying(k) => self.carry_on(Activity::Delaying(k)),
-            Activity::Between => self.next(text),
+        if activity.between() {
+            return self.next(text);
         }
+        self.carry_on(activity)
     }
 
     // A tick.
-    fn step(self, text: &[u8]) -> Core
+    fn step(self, text: &[u8]) -> Stepped
         requires { ⌜ Ready self (now text) ⌝ }
-        ensures { λ r. ⌜ r ≡ stepOf (now (text .entry)) self .next ⌝ }
+        ensures { λ r. ⌜ r ≡ stepOf (around (now (text .entry))) self .next ⌝ }
     {
         let course = self.course;
         let state = course.state;
         match state {
-            State::Empty => self,
-            State::Stored => self,
+            State::Empty => self.fine(),
+            State::Stored => self.fine(),
             State::Running(activity) => self.active(activity, text),
-            State::Stopped => self,
-            State::Done => self,
+            State::Stopped => self.fine(),
+            State::Done => self.fine(),
+        }
+    }
+}
+
+impl Stepped {
+    // A tick more: the first failure counts.
+    fn next(self, text: &[u8]) -> Stepped
+        requires { ⌜ Ready (self .core) (now text) ⌝ }
+        ensures { λ r. ⌜ r ≡ nextOf (around (now (text .entry))) self ⌝ }
+    {
+        let core = self.core;
+        let before = self.failed;
+        let stepped = core.step(text);
+        let after = stepped.core;
+        let now = stepped.failed;
+        let failed = before.first(now);
+        Stepped {
+            core: after,
+            failed,
         }
     }
 
     // The ticks passed over, of so many, and the next tick.
     fn leap(self, text: &[u8], most: u32) -> Ticked
-        requires { ⌜ Ready self (now text) ⌝ }
-        ensures { λ r. ⌜ r ≡ leaptOf most (now (text .entry)) self ⌝ }
+        requires { ⌜ Ready (self .core) (now text) ⌝ }
+        ensures { λ r. ⌜ r ≡ leaptOf most (around (now (text .entry))) self ⌝ }
     {
-        let skipped = self.skip(most);
+        let core = self.core;
+        let failed = self.failed;
+        let skipped = core.skip(most);
         let n = skipped.used;
-        let before = skipped.core;
-        let core = before.step(text);
-        Ticked { core, used: n + 1 }
+        let later = skipped.core;
+        let before = Stepped {
+            core: later,
+            failed,
+        };
+        let stepped = before.next(text);
+        Ticked {
+            stepped,
+            used: n + 1,
+        }
     }
 }
 
 // Up to n ticks, until ready.
 pub fn run(start: Core, text: &[u8], n: u32) -> Ticked
     requires { ⌜ Ready start (now text) ⌝ }
-    ensures { λ r. ⌜ r ≡ runOf n (now (text .entry)) start ⌝ }
+    ensures { λ r. ⌜ r ≡ runOf n (around (now (text .entry))) start ⌝ }
 {
-    let mut c = start;
+    let mut s = Stepped {
+        core: start,
+        failed: Verdict::Fine,
+    };
     let mut used = 0;
     while used < n {
+        let c = s.core;
         if c.ready() {
-            return Ticked { core: c, used };
+            return Ticked { stepped: s, used };
         }
         let left = n - used;
-        let leapt = c.leap(text, left - 1);
-        c = leapt.core;
+        let leapt = s.leap(text, left - 1);
+        s = leapt.stepped;
         used += leapt.used;
     }
-    Ticked { core: c, used }
+    Ticked { stepped: s, used }
 }

@@ -10,11 +10,10 @@ use Rattle.command.specs.declared.Command.{Command}
 use Rattle.motion.specs.declared.Body.{Body}
 use Rattle.motion.specs.declared.Travel.{Travel}
 use Rattle.motion.specs.declared.Activity.{Activity}
-use Rattle.motion.specs.declared.Activity.the-variants.{Between}
-use Rattle.motion.specs.declared.Moment.{Moment}
 use Rattle.motion.specs.declared.Effect.{Effect}
+use Rattle.motion.specs.declared.Effect.the-variants.{Goes, Ends}
 use Rattle.motion.specs.declared.Target.{Target}
-use Rattle.motion.specs.Motion.{targetOf, pacedOf, setTo, effectOf, plungerOf, bodyAt, bodyKnown, moment, carried, onwardOf, cutOf}
+use Rattle.motion.specs.Motion.{targetOf, pacedOf, setTo, effectOf, plungerOf, bodyAt, bodyKnown, carried, onwardOf}
 
 pub target-case : (k j : Way) (by exact : ℕ) (r : Target) → k ≡ j → r ≡ targetOf j by exact → r ≡ targetOf k by exact
 target-case k j by exact r p e = rw p e
@@ -29,18 +28,15 @@ effect-case k j b r p e = rw p e
 pub setting-case : (k j : Command) (s t : Settings) (b : Body) (r : Effect) → k ≡ j → s ≡ t → r ≡ setTo s b → setTo t b ≡ effectOf j b .next → r ≡ effectOf k b .next
 setting-case k j s t b r p q e d = rw p (e ∙ ap (λ (x : Settings). setTo x b) q ∙ d)
 
-pub onward-case : (k j : Activity) (b : Body) (r : Moment) → k ≡ j → r ≡ onwardOf j b → r ≡ onwardOf k b
+pub onward-case : (k j : Activity) (b : Body) (r : Effect) → k ≡ j → r ≡ onwardOf j b .next → r ≡ onwardOf k b .next
 onward-case k j b r p e = rw p e
 
-pub cut-case : (k j : Activity) (b r : Body) → k ≡ j → r ≡ cutOf j b .next → r ≡ cutOf k b .next
-cut-case k j b r p e = rw p e
-
 -- a movement that has arrived, and one that has not
-module _ (kind : Travel → Activity) (known : Bool) (t : Travel) (b : Body) (p : ℕ) (e : p ≡ plungerOf t) (r : Moment) where
-  pub there : p ≡ t .goal → r ≡ moment (bodyKnown known (bodyAt p b)) Between → r ≡ carried kind known t b
+module _ (kind : Travel → Activity) (known : Bool) (t : Travel) (b : Body) (p : ℕ) (e : p ≡ plungerOf t) (d : Body) (r : Effect) where
+  pub there : p ≡ t .goal → d ≡ bodyKnown known (bodyAt p b) → r ≡ Ends d → r ≡ carried kind known t b
   unfolding carried
-  there h q = simp (← e, q, tests)
+  there h i q = simp (← e, q, i, tests)
 
-  pub away : (p ≡ t .goal → ⊥) → r ≡ moment (bodyAt p b) (kind t) → r ≡ carried kind known t b
+  pub away : (p ≡ t .goal → ⊥) → d ≡ bodyAt p b → r ≡ Goes d (kind t) → r ≡ carried kind known t b
   unfolding carried
-  away h q = simp (← e, q, tests)
+  away h i q = simp (← e, q, i, tests)

@@ -24,15 +24,14 @@ use Rattle.command.specs.declared.Command.the-variants as C
 use Rattle.command.specs.Allowed.{Allowed}
 use Rattle.motion.specs.declared.Body.{Body}
 use Rattle.motion.specs.declared.Travel.{Travel}
-use Rattle.motion.specs.declared.Moment.{Moment}
 use Rattle.motion.specs.declared.Activity.{Activity}
 use Rattle.motion.specs.declared.Activity.the-variants.{Initialising, Moving, Delaying, Between}
 use Rattle.motion.specs.declared.Target.{Target}
 use Rattle.motion.specs.declared.Target.the-variants.{At, Outside}
 use Rattle.motion.specs.declared.Effect.{Effect}
 use Rattle.motion.specs.Events.{Turn}
-use Rattle.motion.specs.Motion.{travel, laterOf, plungerOf, moment, homeOf, targetOf, setOut, aimed, moveOf, pacedOf, slopedOf, backlashOf, ratedOf, delayOf, effectOf, carried, onwardOf, cutOf, resetOf, freshBody}
-use Rattle.motion.specs.Bounds.{BodyOk, TravelOk, ActivityOk, MomentOk, EffectOk}
+use Rattle.motion.specs.Motion.{travel, laterOf, plungerOf, homeOf, targetOf, setOut, aimed, moveOf, pacedOf, slopedOf, backlashOf, ratedOf, delayOf, effectOf, carried, waitedOf, onwardOf, inMotion, cutOf, resetOf, freshBody}
+use Rattle.motion.specs.Bounds.{BodyOk, TravelOk, ActivityOk, EffectOk}
 use Rattle.motion.proofs.Within.{target-within}
 
 -- a movement's plunger lies between its two ends
@@ -59,21 +58,18 @@ not-arrived t slow f g = go (leb (t .from) (t .goal)) refl
     go false e h = under-way (t .ticks) (t .speed) (t .from - t .goal) slow (omega arith) (λ a. h (omega (arith, leb-false (t .from) (t .goal) e)))
 
 module _ (b : Body) (ok : BodyOk b) where
-  still : MomentOk (moment b Between)
-  still = record { body = ok; activity = tt }
-
-  set-with : (s : Settings) → Kept s → MomentOk (moment (record { plunger = b .plunger; exact = b .exact; initialised = b .initialised; settings = s }) Between)
-  set-with s k = record { body = record { plunger = ok .plunger; exact = ok .exact; settings = k }; activity = tt }
+  set-with : (s : Settings) → Kept s → BodyOk (record { plunger = b .plunger; exact = b .exact; initialised = b .initialised; settings = s })
+  set-with s k = record { plunger = ok .plunger; exact = ok .exact; settings = k }
 
   home-keeps : (n : ℕ) → 100 ≤ n → EffectOk (homeOf n b .next)
   unfolding homeOf
   home-keeps n h =
       by EffectOk (eqb (b .plunger) 0)
-      (λ e. record { body = record { plunger = ok .plunger; exact = omega arith; settings = ok .settings }; activity = tt })
-      (λ e. record {
-        body = record { plunger = ok .plunger; exact = omega arith; settings = ok .settings };
-        activity = record { from = ok .plunger; goal = omega arith; slow = omega arith; ticks = omega arith };
-      })
+      (λ e. record { plunger = ok .plunger; exact = omega arith; settings = ok .settings })
+      (λ e. (
+        record { plunger = ok .plunger; exact = omega arith; settings = ok .settings },
+        record { from = ok .plunger; goal = omega arith; slow = omega arith; ticks = omega arith },
+      ))
 
   set-out-keeps : (exact : ℕ) → exact ≤ 44000000000 → EffectOk (setOut exact b)
   unfolding setOut
@@ -81,16 +77,13 @@ module _ (b : Body) (ok : BodyOk b) where
       let fine : BodyOk (record { plunger = b .plunger; exact = exact; initialised = b .initialised; settings = b .settings })
       = record { plunger = ok .plunger; exact = h; settings = ok .settings } in
       by EffectOk (eqb (b .plunger) (goalOf exact))
-      (λ e. record { body = fine; activity = tt })
-      (λ e. record {
-        body = fine;
-        activity = record { from = ok .plunger; goal = goal-is-within-travel exact h; slow = ok .settings .top .least; ticks = omega arith };
-      })
+      (λ e. fine)
+      (λ e. (fine, record { from = ok .plunger; goal = goal-is-within-travel exact h; slow = ok .settings .top .least; ticks = omega arith }))
 
   aimed-keeps : (t : Target) (way : Way) (v : Volume) → ((exact : ℕ) → t ≡ At exact → exact ≤ 44000000000) → EffectOk (aimed t way v b .next)
   unfolding aimed
   aimed-keeps (At exact) way v h = set-out-keeps exact (h exact refl)
-  aimed-keeps Outside way v h = tt
+  aimed-keeps Outside way v h = ok
 
   move-keeps : (way : Way) (v : Volume) → EffectOk (moveOf way v b .next)
   unfolding moveOf
@@ -98,11 +91,11 @@ module _ (b : Body) (ok : BodyOk b) where
       let target = targetOf way (millionthsOf v (b .settings .rate)) (b .exact) in
       by (λ (t : Turn Effect). EffectOk (t .next)) (b .initialised)
       (λ e. aimed-keeps target way v (λ exact. target-within way (millionthsOf v (b .settings .rate)) (b .exact) exact))
-      (λ e. tt)
+      (λ e. ok)
 
   delay-keeps : (ms : ℕ) → EffectOk (delayOf ms b)
   unfolding delayOf
-  delay-keeps ms = by EffectOk (eqb (ticksOf ms) 0) (λ e. still) (λ e. record { body = ok; activity = tt })
+  delay-keeps ms = by EffectOk (eqb (ticksOf ms) 0) (λ e. ok) (λ e. (ok, tt))
 
 paced-kept : (pace : Pace) (n : ℕ) (s : Settings) → Limits.Between (speedsOf pace) n → Kept s → Kept (pacedOf pace n s)
 paced-kept Top n s h k = record { top = h; start = k .start; cutoff = k .cutoff; acceleration = k .acceleration; deceleration = k .deceleration; backlash = k .backlash; rate = k .rate }
@@ -132,24 +125,28 @@ effect-keeps C.Open b h ok = tt
 effect-keeps (C.Close n) b h ok = tt
 
 -- a tick of what is in progress
-carried-keeps : (kind : Travel → Activity) (known : Bool) (t : Travel) (b : Body) → ((u : Travel) → TravelOk u → ActivityOk (kind u)) → BodyOk b → TravelOk t → MomentOk (carried kind known (laterOf t) b)
+carried-keeps : (kind : Travel → Activity) (known : Bool) (t : Travel) (b : Body) → ((u : Travel) → TravelOk u → ActivityOk (kind u)) → BodyOk b → TravelOk t → EffectOk (carried kind known (laterOf t) b)
 unfolding carried
 carried-keeps kind known t b of ok go =
     let u = laterOf t in
     let low = plunger-between u (go .from) (go .goal) in
-    by MomentOk (eqb (plungerOf u) (t .goal))
-    (λ e. record { body = record { plunger = low; exact = ok .exact; settings = ok .settings }; activity = tt })
-    (λ e. record {
-      body = record { plunger = low; exact = ok .exact; settings = ok .settings };
-      activity = of u (record { from = go .from; goal = go .goal; slow = go .slow; ticks = not-arrived u (go .slow) (go .from) (go .goal) (eqb-false (plungerOf u) (t .goal) e) });
-    })
+    by EffectOk (eqb (plungerOf u) (t .goal))
+    (λ e. record { plunger = low; exact = ok .exact; settings = ok .settings })
+    (λ e. (
+      record { plunger = low; exact = ok .exact; settings = ok .settings },
+      of u (record { from = go .from; goal = go .goal; slow = go .slow; ticks = not-arrived u (go .slow) (go .from) (go .goal) (eqb-false (plungerOf u) (t .goal) e) }),
+    ))
 
-pub onward-keeps : (a : Activity) (b : Body) → ActivityOk a → BodyOk b → MomentOk (onwardOf a b)
+waited-keeps : (k : ℕ) (b : Body) → BodyOk b → EffectOk (waitedOf k b)
+unfolding waitedOf
+waited-keeps k b ok = by EffectOk (leb k 1) (λ e. ok) (λ e. (ok, tt))
+
+pub onward-keeps : (a : Activity) (b : Body) → ActivityOk a → BodyOk b → EffectOk (onwardOf a b .next)
 unfolding onwardOf
 onward-keeps (Initialising t) b go ok = carried-keeps Initialising true t b (λ u h. h) ok go
 onward-keeps (Moving t) b go ok = carried-keeps Moving (b .initialised) t b (λ u h. h) ok go
-onward-keeps (Delaying k) b go ok = by MomentOk (leb k 1) (λ e. still b ok) (λ e. record { body = ok; activity = tt })
-onward-keeps Between b go ok = still b ok
+onward-keeps (Delaying k) b go ok = waited-keeps k b ok
+onward-keeps Between b go ok = ok
 
 -- a cut, a reset and a fresh body
 at-plunger : (b : Body) → BodyOk b → BodyOk (record { plunger = b .plunger; exact = b .plunger * 1000000; initialised = b .initialised; settings = b .settings })
@@ -157,10 +154,7 @@ at-plunger b ok = let p = ok .plunger in record { plunger = p; exact = omega ari
 
 pub cut-keeps : (a : Activity) (b : Body) → BodyOk b → BodyOk (cutOf a b .next)
 unfolding cutOf
-cut-keeps (Initialising t) b ok = at-plunger b ok
-cut-keeps (Moving t) b ok = at-plunger b ok
-cut-keeps (Delaying k) b ok = ok
-cut-keeps Between b ok = ok
+cut-keeps a b ok = by (λ (t : Turn Body). BodyOk (t .next)) (inMotion a) (λ e. at-plunger b ok) (λ e. ok)
 
 pub reset-keeps : (b : Body) → BodyOk b → BodyOk (resetOf b .next)
 unfolding resetOf

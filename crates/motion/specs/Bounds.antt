@@ -1,17 +1,16 @@
 -- The bounds that hold of every body that comes from making and earlier calls.
 use Prim.Native.Nat.{_≤_}
-use Rattle.settings.specs.Limits.{Kept}
+use Rattle.settings.specs.Limits.{travelMost, Kept}
 use Rattle.motion.specs.declared.Body.{Body}
 use Rattle.motion.specs.declared.Travel.{Travel}
-use Rattle.motion.specs.declared.Moment.{Moment}
 use Rattle.motion.specs.declared.Effect.{Effect}
-use Rattle.motion.specs.declared.Effect.the-variants.{Goes, Fails, Opens, Closes}
+use Rattle.motion.specs.declared.Effect.the-variants.{Goes, Ends, Fails, Opens, Closes}
 use Rattle.motion.specs.declared.Activity.{Activity}
 use Rattle.motion.specs.declared.Activity.the-variants.{Initialising, Moving, Delaying, Between}
 
 pub record BodyOk (b : Body) : Type 0 where
   pub plunger : b .plunger ≤ 44000
-  pub exact : b .exact ≤ 44000000000
+  pub exact : b .exact ≤ travelMost
   pub settings : Kept (b .settings)
 
 -- ticks stay small since the slowest movement takes 44000 of them
@@ -27,12 +26,9 @@ ActivityOk (Moving t) = TravelOk t
 ActivityOk (Delaying k) = Unit {0}
 ActivityOk Between = Unit {0}
 
-pub record MomentOk (m : Moment) : Type 0 where
-  pub body : BodyOk (m .body)
-  pub activity : ActivityOk (m .activity)
-
 abbrev pub EffectOk : Effect → Type 0
-EffectOk (Goes m) = MomentOk m
-EffectOk (Fails code) = Unit {0}
+EffectOk (Goes b a) = BodyOk b × ActivityOk a
+EffectOk (Ends b) = BodyOk b
+EffectOk (Fails why b) = BodyOk b
 EffectOk Opens = Unit {0}
 EffectOk (Closes n) = Unit {0}

@@ -7,19 +7,19 @@ use Rattle.settings.specs.declared.Settings.{Settings}
 use Rattle.settings.specs.declared.Volume.{Volume}
 use Rattle.settings.specs.declared.Pace.{Pace}
 use Rattle.settings.specs.declared.Pace.the-variants.{Top, Start, Cutoff}
-use Rattle.settings.specs.Limits.{usualSettings}
+use Rattle.settings.specs.Limits.{travelMost, usualSettings}
 use Rattle.settings.specs.Units.{ticksOf, rateOf, millionthsOf, goalOf, goneOf}
 use Rattle.command.specs.declared.Way.{Way}
 use Rattle.command.specs.declared.Way.the-variants.{To, Up, Down}
+use Rattle.command.specs.declared.refusal.Refusal.the-variants as R
 use Rattle.command.specs.declared.Command.{Command}
 use Rattle.command.specs.declared.Command.the-variants as C
 use Rattle.motion.specs.declared.Body.{Body}
 use Rattle.motion.specs.declared.Travel.{Travel}
 use Rattle.motion.specs.declared.Activity.{Activity}
 use Rattle.motion.specs.declared.Activity.the-variants.{Initialising, Moving, Delaying, Between}
-use Rattle.motion.specs.declared.Moment.{Moment}
 use Rattle.motion.specs.declared.Effect.{Effect}
-use Rattle.motion.specs.declared.Effect.the-variants.{Goes, Fails, Opens, Closes}
+use Rattle.motion.specs.declared.Effect.the-variants.{Goes, Ends, Fails, Opens, Closes}
 use Rattle.motion.specs.declared.Target.{Target}
 use Rattle.motion.specs.declared.Target.the-variants.{At, Outside}
 use Rattle.motion.specs.Events.{Event, start, volume, Turn, quiet, told}
@@ -50,21 +50,18 @@ bodyKnown i b = record { plunger = b .plunger; exact = b .exact; initialised = i
 abbrev pub bodySet : Settings → Body → Body
 bodySet s b = record { plunger = b .plunger; exact = b .exact; initialised = b .initialised; settings = s }
 
-abbrev pub moment : Body → Activity → Moment
-moment b a = record { body = b; activity = a }
-
 -- "W clears "initialised", moves to 0, then sets it", at ten times its operand; the exact position is 0 in the tick that takes it
 unfoldable pub homeOf : ℕ → Body → Turn Effect
 homeOf speed b =
     let cleared = bodyKnown false (bodyFor 0 b) in
     told (start 0)
     (if eqb (b .plunger) 0
-    then Goes (moment (bodyKnown true cleared) Between)
-    else Goes (moment cleared (Initialising (travel (b .plunger) 0 (speed * 10)))))
+    then Ends (bodyKnown true cleared)
+    else Goes cleared (Initialising (travel (b .plunger) 0 (speed * 10))))
 
 -- "Result below 0 or above 44,000,000,000: refused, 3."
 unfoldable pub within : ℕ → Target
-within exact = if ltb 44000000000 exact then Outside else At exact
+within exact = if ltb travelMost exact then Outside else At exact
 
 -- "A sets, P adds, D subtracts."
 unfoldable pub targetOf : Way → ℕ → ℕ → Target
@@ -76,8 +73,8 @@ targetOf Down by exact = if ltb exact by then Outside else within (exact - by)
 unfoldable pub setOut : ℕ → Body → Effect
 setOut exact b =
     if eqb (b .plunger) (goalOf exact)
-    then Goes (moment (bodyFor exact b) Between)
-    else Goes (moment (bodyFor exact b) (Moving (travel (b .plunger) (goalOf exact) (b .settings .top))))
+    then Ends (bodyFor exact b)
+    else Goes (bodyFor exact b) (Moving (travel (b .plunger) (goalOf exact) (b .settings .top)))
 
 -- what A, P and D add to the history: A is a start "at the exact place asked for"
 abbrev pub eventOf : Way → Volume → ℕ → ℕ → Event
@@ -87,14 +84,14 @@ eventOf Down v rate exact = volume v rate false
 
 unfoldable pub aimed : Target → Way → Volume → Body → Turn Effect
 aimed (At exact) way v b = told (eventOf way v (b .settings .rate) exact) (setOut exact b)
-aimed Outside way v b = quiet (Fails 3)
+aimed Outside way v b = quiet (Fails R.Outside b)
 
 -- "7 is checked before 3."
 unfoldable pub moveOf : Way → Volume → Body → Turn Effect
 moveOf way v b =
     if b .initialised
     then aimed (targetOf way (millionthsOf v (b .settings .rate)) (b .exact)) way v b
-    else quiet (Fails 7)
+    else quiet (Fails R.NotInitialised b)
 
 -- settings with one of them changed
 abbrev pub settingsOf : ℕ → ℕ → ℕ → ℕ → ℕ → ℕ → ℕ → Settings
@@ -116,12 +113,13 @@ ratedOf rate s = settingsOf (s .top) (s .start) (s .cutoff) (s .acceleration) (s
 
 -- "Settings .. end in that tick."
 abbrev pub setTo : Settings → Body → Effect
-setTo s b = Goes (moment (bodySet s b) Between)
+setTo s b = Ends (bodySet s b)
 
 -- "delays of 0 end in that tick"
 unfoldable pub delayOf : ℕ → Body → Effect
-delayOf ms b = if eqb (ticksOf ms) 0 then Goes (moment b Between) else Goes (moment b (Delaying (ticksOf ms)))
+delayOf ms b = if eqb (ticksOf ms) 0 then Ends b else Goes b (Delaying (ticksOf ms))
 
+-- a command that is taken
 unfoldable pub effectOf : Command → Body → Turn Effect
 effectOf (C.Initialise speed) b = homeOf speed b
 effectOf (C.Move way v) b = moveOf way v b
@@ -134,18 +132,34 @@ effectOf C.Open b = quiet Opens
 effectOf (C.Close n) b = quiet (Closes n)
 
 -- a tick of a movement: the plunger where the distance gone puts it; once that is the goal it has ended, and W then sets "initialised"
-unfoldable pub carried : (Travel → Activity) → Bool → Travel → Body → Moment
+unfoldable pub carried : (Travel → Activity) → Bool → Travel → Body → Effect
 carried kind known t b =
     if eqb (plungerOf t) (t .goal)
-    then moment (bodyKnown known (bodyAt (plungerOf t) b)) Between
-    else moment (bodyAt (plungerOf t) b) (kind t)
+    then Ends (bodyKnown known (bodyAt (plungerOf t) b))
+    else Goes (bodyAt (plungerOf t) b) (kind t)
 
--- a tick of what is in progress; `Between` once it has ended
-unfoldable pub onwardOf : Activity → Body → Moment
-onwardOf (Initialising t) b = carried Initialising true (laterOf t) b
-onwardOf (Moving t) b = carried Moving (b .initialised) (laterOf t) b
-onwardOf (Delaying k) b = if leb k 1 then moment b Between else moment b (Delaying (k - 1))
-onwardOf Between b = moment b Between
+unfoldable pub waitedOf : ℕ → Body → Effect
+waitedOf k b = if leb k 1 then Ends b else Goes b (Delaying (k - 1))
+
+-- a tick of what is in progress; between two commands nothing is
+unfoldable pub onwardOf : Activity → Body → Turn Effect
+onwardOf (Initialising t) b = quiet (carried Initialising true (laterOf t) b)
+onwardOf (Moving t) b = quiet (carried Moving (b .initialised) (laterOf t) b)
+onwardOf (Delaying k) b = quiet (waitedOf k b)
+onwardOf Between b = quiet (Ends b)
+
+-- which of what can be in progress is a movement, and which is none of it: between two commands
+abbrev pub inMotion : Activity → Bool
+inMotion (Initialising t) = true
+inMotion (Moving t) = true
+inMotion (Delaying k) = false
+inMotion Between = false
+
+abbrev pub between : Activity → Bool
+between (Initialising t) = false
+between (Moving t) = false
+between (Delaying k) = false
+between Between = true
 
 -- the exact position "is the plunger's" "after a cut movement or a reset"
 abbrev pub atPlunger : Body → ℕ
@@ -153,10 +167,7 @@ atPlunger b = b .plunger * 1000000
 
 -- T: "a movement is cut where the plunger is"; "T without movement doesn't touch" the exact position
 unfoldable pub cutOf : Activity → Body → Turn Body
-cutOf (Initialising t) b = told (start (atPlunger b)) (bodyFor (atPlunger b) b)
-cutOf (Moving t) b = told (start (atPlunger b)) (bodyFor (atPlunger b) b)
-cutOf (Delaying k) b = quiet b
-cutOf Between b = quiet b
+cutOf a b = if inMotion a then told (start (atPlunger b)) (bodyFor (atPlunger b) b) else quiet b
 
 -- !R: "default settings, uninitialised, no error; the plunger stays"
 unfoldable pub resetOf : Body → Turn Body

@@ -1,6 +1,7 @@
 // The plunger, its exact position and the settings: what a command does to them, and how a movement goes on. Nothing here knows a place in a text.
 use command::Command;
 use command::Way;
+use command::refusal::Refusal;
 use settings::Pace;
 use settings::Settings;
 use settings::Volume;
@@ -8,8 +9,9 @@ use settings::units;
 ghost use mathlib.Core.Path.{_≡_};
 ghost use mathlib.Core.Bool.{true};
 ghost use Prim.Native.Nat.{_≤_};
+ghost use Rattle.settings.specs.Limits.{travelMost};
 ghost use Rattle.settings.specs.Units.{rateOf};
-ghost use Rattle.motion.specs.Motion.{travel, laterOf, plungerOf, bodyAt, bodyFor, bodyKnown, moment, atPlunger, homeOf, targetOf, within, setOut, aimed, moveOf, pacedOf, slopedOf, backlashOf, ratedOf, setTo, delayOf, effectOf, carried, onwardOf, cutOf, resetOf, freshBody};
+ghost use Rattle.motion.specs.Motion.{travel, laterOf, plungerOf, bodyAt, bodyFor, bodyKnown, atPlunger, homeOf, targetOf, within, setOut, aimed, moveOf, pacedOf, slopedOf, backlashOf, ratedOf, setTo, delayOf, effectOf, carried, waitedOf, onwardOf, inMotion, between, cutOf, resetOf, freshBody};
 ghost use Rattle.motion.specs.Bounds.{BodyOk, TravelOk, ActivityOk};
 
 // The exact position counts millionths of an increment.
@@ -36,16 +38,11 @@ pub enum Activity {
     Between,
 }
 
-// A body and what it is about; `Between` where a command has ended.
-pub struct Moment {
-    pub body: Body,
-    pub activity: Activity,
-}
-
-// What a command does: the body goes on, the run fails with a number of 01's, or a loop begins or ends.
+// What a command that is taken does, or a tick of what is in progress: it goes on, has ended, or fails, with the body it leaves; or a loop begins or ends.
 pub enum Effect {
-    Goes(Moment),
-    Fails(u8),
+    Goes(Body, Activity),
+    Ends(Body),
+    Fails(Refusal, Body),
     Opens,
     Closes(u32),
 }
@@ -54,6 +51,32 @@ pub enum Effect {
 pub enum Target {
     At(u64),
     Outside,
+}
+
+impl Activity {
+    // Whether it is a movement.
+    pub fn moves(self) -> bool
+        ensures { λ r. ⌜ r ≡ inMotion self ⌝ }
+    {
+        match self {
+            Activity::Initialising(_) => true,
+            Activity::Moving(_) => true,
+            Activity::Delaying(_) => false,
+            Activity::Between => false,
+        }
+    }
+
+    // Whether nothing is in progress.
+    pub fn between(self) -> bool
+        ensures { λ r. ⌜ r ≡ between self ⌝ }
+    {
+        match self {
+            Activity::Initialising(_) => false,
+            Activity::Moving(_) => false,
+            Activity::Delaying(_) => false,
+            Activity::Between => true,
+        }
+    }
 }
 
 impl Travel {
@@ -102,7 +125,7 @@ impl Travel {
 fn in_travel(exact: u64) -> Target
     ensures { λ r. ⌜ r ≡ within exact ⌝ }
 {
-    if 44_000_000_000 < exact {
+    if Settings::TRAVEL < exact {
         return Target::Outside;
     }
     Target::At(exact)
@@ -110,13 +133,13 @@ fn in_travel(exact: u64) -> Target
 
 // The exact position that A, P or D asks for.
 fn asked_for(way: Way, by: u64, exact: u64) -> Target
-    requires { ⌜ exact ≤ 44000000000 ⌝ }
+    requires { ⌜ exact ≤ travelMost ⌝ }
     ensures { λ r. ⌜ r ≡ targetOf way by exact ⌝ }
 {
     match way {
         Way::To => in_travel(by),
         Way::Up => {
-            if 44_000_000_000 < by {
+            if Settings::TRAVEL < by {
                 return Target::Outside;
             }
             in_travel(exact + by)
@@ -193,15 +216,6 @@ impl Body {
         }
     }
 
-    fn goes(self, activity: Activity) -> Effect
-        ensures { λ r. ⌜ r ≡ Effect.Goes (moment self activity) ⌝ }
-    {
-        Effect::Goes(Moment {
-            body: self,
-            activity,
-        })
-    }
-
     // W.
     fn home(self, speed: u16) -> Effect
         ensures { λ r. ⌜ r ≡ homeOf speed self .next ⌝ }
@@ -216,7 +230,7 @@ impl Body {
                 initialised: true,
                 settings,
             };
-            return at.goes(Activity::Between);
+            return Effect::Ends(at);
         }
         let cleared = Body {
             plunger: from,
@@ -224,12 +238,15 @@ impl Body {
             initialised: false,
             settings,
         };
-        cleared.goes(Activity::Initialising(Travel::new(from, 0, tenths)))
+        Effect::Goes(
+            cleared,
+            Activity::Initialising(Travel::new(from, 0, tenths)),
+        )
     }
 
     // Towards an exact position within travel.
     fn set_out(self, exact: u64) -> Effect
-        requires { ⌜ exact ≤ 44000000000 ⌝ }
+        requires { ⌜ exact ≤ travelMost ⌝ }
         ensures { λ r. ⌜ r ≡ setOut exact self ⌝ }
     {
         let from = self.plunger;
@@ -242,9 +259,12 @@ impl Body {
             settings,
         };
         if from == goal {
-            return body.goes(Activity::Between);
+            return Effect::Ends(body);
         }
-        body.goes(Activity::Moving(Travel::new(from, goal, settings.top)))
+        Effect::Goes(
+            body,
+            Activity::Moving(Travel::new(from, goal, settings.top)),
+        )
     }
 
     // A, P and D.
@@ -253,13 +273,13 @@ impl Body {
         ensures { λ r. ⌜ r ≡ moveOf way volume self .next ⌝ }
     {
         if !self.initialised {
-            return Effect::Fails(7);
+            return Effect::Fails(Refusal::NotInitialised, self);
         }
         let settings = self.settings;
         let by = volume.millionths(settings.rate);
         match asked_for(way, by, self.exact) {
             Target::At(exact) => self.set_out(exact),
-            Target::Outside => Effect::Fails(3),
+            Target::Outside => Effect::Fails(Refusal::Outside, self),
         }
     }
 
@@ -273,7 +293,7 @@ impl Body {
             initialised: self.initialised,
             settings,
         };
-        body.goes(Activity::Between)
+        Effect::Ends(body)
     }
 
     // M.
@@ -282,9 +302,9 @@ impl Body {
     {
         let k = units::ticks(ms);
         if k == 0 {
-            return self.goes(Activity::Between);
+            return Effect::Ends(self);
         }
-        self.goes(Activity::Delaying(k))
+        Effect::Goes(self, Activity::Delaying(k))
     }
 
     // What a command does.
@@ -307,72 +327,60 @@ impl Body {
     }
 
     // The plunger moved, and what is known of it.
-    fn moved(self, plunger: u32, initialised: bool, activity: Activity) -> Moment
-        ensures { λ r. ⌜ r ≡ moment (bodyKnown initialised (bodyAt plunger self)) activity ⌝ }
+    fn moved(self, plunger: u32, initialised: bool) -> Body
+        ensures { λ r. ⌜ r ≡ bodyKnown initialised (bodyAt plunger self) ⌝ }
     {
         let settings = self.settings;
-        Moment {
-            body: Body {
-                plunger,
-                exact: self.exact,
-                initialised,
-                settings,
-            },
-            activity,
+        Body {
+            plunger,
+            exact: self.exact,
+            initialised,
+            settings,
         }
     }
 
     // A tick of W's movement.
-    fn homewards(self, t: Travel) -> Moment
+    fn homewards(self, t: Travel) -> Effect
         ensures { λ r. ⌜ r ≡ carried Activity.Initialising true t self ⌝ }
     {
         let p = t.plunger();
         if p == t.goal {
-            return self.moved(p, true, Activity::Between);
+            return Effect::Ends(self.moved(p, true));
         }
-        self.moved(p, self.initialised, Activity::Initialising(t))
+        Effect::Goes(self.moved(p, self.initialised), Activity::Initialising(t))
     }
 
     // A tick of a movement.
-    fn forwards(self, t: Travel) -> Moment
+    fn forwards(self, t: Travel) -> Effect
         ensures { λ r. ⌜ r ≡ carried Activity.Moving (self .initialised) t self ⌝ }
     {
         let p = t.plunger();
         if p == t.goal {
-            return self.moved(p, self.initialised, Activity::Between);
+            return Effect::Ends(self.moved(p, self.initialised));
         }
-        self.moved(p, self.initialised, Activity::Moving(t))
+        Effect::Goes(self.moved(p, self.initialised), Activity::Moving(t))
     }
 
     // A tick of a delay.
-    fn waited(self, k: u32) -> Moment
-        ensures { λ r. ⌜ r ≡ onwardOf (Activity.Delaying k) self ⌝ }
+    fn waited(self, k: u32) -> Effect
+        ensures { λ r. ⌜ r ≡ waitedOf k self ⌝ }
     {
         if k <= 1 {
-            return Moment {
-                body: self,
-                activity: Activity::Between,
-            };
+            return Effect::Ends(self);
         }
-        Moment {
-            body: self,
-            activity: Activity::Delaying(k - 1),
-        }
+        Effect::Goes(self, Activity::Delaying(k - 1))
     }
 
     // A tick of what is in progress.
-    pub fn onward(self, activity: Activity) -> Moment
+    pub fn onward(self, activity: Activity) -> Effect
         requires { ⌜ ActivityOk activity ⌝ }
-        ensures { λ r. ⌜ r ≡ onwardOf activity self ⌝ }
+        ensures { λ r. ⌜ r ≡ onwardOf activity self .next ⌝ }
     {
         match activity {
             Activity::Initialising(t) => self.homewards(t.later()),
             Activity::Moving(t) => self.forwards(t.later()),
             Activity::Delaying(k) => self.waited(k),
-            Activity::Between => Moment {
-                body: self,
-                activity: Activity::Between,
-            },
+            Activity::Between => Effect::Ends(self),
         }
     }
 
@@ -394,12 +402,10 @@ impl Body {
     pub fn cut(self, activity: Activity) -> Body
         ensures { λ r. ⌜ r ≡ cutOf activity self .next ⌝ }
     {
-        match activity {
-            Activity::Initialising(_) => self.at_plunger(),
-            Activity::Moving(_) => self.at_plunger(),
-            Activity::Delaying(_) => self,
-            Activity::Between => self,
+        if activity.moves() {
+            return self.at_plunger();
         }
+        self
     }
 
     // !R.

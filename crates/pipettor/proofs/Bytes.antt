@@ -5,8 +5,6 @@ use mathlib.Core.List.{List}
 use Prim.Native.Nat.{ℕ, _≤_, _<_}
 use native.Mathlib.Omega.{arith}
 use borrow.Author.Tests.{lt-ltb, le-ltb}
-use mir.Syntax.{w16}
-use mir.Val.{Fits}
 use lib.Dec.{ltb, eqb}
 use lib.ListN.{length, take, length-set, length-take}
 use lib.Seq.{length-take-le}
@@ -22,6 +20,10 @@ use Rattle.line.specs.declared.Deed.the-variants as W
 use Rattle.line.specs.declared.Heard.{Heard}
 use Rattle.line.specs.Wire.{hearOf, keepOf}
 use Rattle.machine.specs.declared.step.Core.{Core}
+use Rattle.machine.specs.declared.act.Done.{Done}
+use Rattle.machine.specs.Valid.{Valid}
+use Rattle.reports.specs.Reports.{Tellable}
+use Rattle.machine.specs.Act.{acted}
 use Rattle.machine.specs.Run.{readyOf}
 use Rattle.machine.specs.Device.{device}
 use Rattle.pipettor.specs.declared.acting.Got.{Got}
@@ -32,8 +34,7 @@ use Rattle.pipettor.specs.declared.Controller.{Controller}
 use Rattle.pipettor.specs.declared.Said.{Said}
 use Rattle.pipettor.specs.declared.Said.the-variants.{S1}
 use Rattle.pipettor.specs.Address.{letterOf}
-use Rattle.pipettor.specs.Valid.{Valid}
-use Rattle.pipettor.specs.Byte.{fetchedOf, squeezedIn, gotOf, squeezedOf, Gotten, taskOf, sizeOf, taskCode, taskDone, taskText, outcomeOf, Spoken, after, reply, heardOf, byteOf}
+use Rattle.pipettor.specs.Byte.{fetchedOf, squeezedIn, gotOf, squeezedOf, Gotten, taskOf, sizeOf, performedOf, outcomeOf, Spoken, dealtOf, after, reply, heardOf, byteOf}
 
 -- the frame keeps its length
 pub kept-length : (f : List ℕ) (d : Deed) (b : ℕ) → length (keepOf f d b) ≡ length f
@@ -74,22 +75,12 @@ got-size ours (W.Frame a n) f =
     (λ _. let h = data-size (spaceless (take n f)) _ refl in omega (arith, h, part-short n f)))
     (λ _. omega arith)
 
-pub frame-length : (f g : List ℕ) (d : Deed) (b : ℕ) → length f ≡ 320 → g ≡ keepOf f d b → length g ≡ 320
-frame-length f g d b l e = rw e (kept-length f d b ∙ l)
+module _ (ours : ℕ) (d : Deed) (f : List ℕ) (got : Got) (g : List ℕ) (n : ℕ) where
+  pub part-fits : length f ≡ 320 → Gotten ours d f got g → n ≡ sizeOf got → n ≤ length g
+  part-fits l e size = let w = squeezed-length ours d f in rw (size, e .got, e .left, w) (got-size ours d f)
 
-module _ (ours : ℕ) (d : Deed) (f : List ℕ) (l : 320 ≡ length f) (got : Got) (g : List ℕ) (e : Gotten ours d f got g) (n : ℕ) (size : n ≡ sizeOf got) where
-  size-short : n ≤ 320
-  size-short = rw (size, e .got, l) (got-size ours d f)
-
-  pub size-in-16-bits : Fits w16 n
-  size-in-16-bits = omega (arith, size-short)
-
-  pub size-fits : n ≤ length g
-  size-fits = let w = squeezed-length ours d f in rw (e .left, w, ← l) size-short
-
-module _ (k : Controller) (v : Valid k) where
-  pub text-fits : length (k .device .text) ≡ 256 → k .device .core .course .len ≤ length (k .device .text)
-  text-fits l = let h = v .core .course .len in omega arith
+pub tellable : (c : Core) → Valid c → Tellable (c .body) (c .course .error)
+tellable c v = record { body = v .body; error = v .course .error }
 
 -- the first bytes of a list
 pub part-count : (n : ℕ) (l : List ℕ) → n ≤ length l → n ≡ length (take n l)
@@ -101,14 +92,12 @@ module _ (k : Controller) (b : ℕ) where
   short buf h = rw (lt-ltb (length buf) 32 h)
 
   pub heard :
-      (buf buf′ : List ℕ) (h : Heard) (frame squeezed text : List ℕ) (got : Got) (task : Task) (n code : ℕ) (o : Outcome) (c : Core) (ready : Bool) (s : Said) (ours : ℕ) →
+      (buf buf′ : List ℕ) (h : Heard) (frame squeezed text : List ℕ) (got : Got) (task : Task) (n : ℕ) (o : Outcome) (r : Done) (ready : Bool) (s : Said) (ours : ℕ) →
       32 ≤ length buf → ours ≡ letterOf (k .address) → h ≡ hearOf (k .line) b → frame ≡ keepOf (k .frame) (h .deed) b → Gotten ours (h .deed) frame got squeezed →
-      task ≡ taskOf got (k .device .core .course .state) → n ≡ sizeOf got →
-      code ≡ taskCode task (take (k .device .core .course .len) (k .device .text)) (take n squeezed) →
-      text ≡ taskText task code (k .device .core .course .len) (take n squeezed) (k .device .text) →
-      o ≡ outcomeOf got (k .address) code (k .device .core) → c ≡ taskDone task code n (k .device .core) .next → ready ≡ readyOf c →
-      Spoken o ready buf s buf′ →
-      after (reply (record { address = k .address; line = h .line; frame = squeezed; device = device text c }) s) buf′ ≡ byteOf k b buf .next
-  unfolding byteOf heardOf
-  heard buf buf′ h frame squeezed text got task n code o c ready s ours l e0 e1 e2 e3 e4 e5 e6 e7 e8 e9 e10 e11 =
-      simp (e11 .said, e11 .left, e10, e9, e8, e7, e6, e5, e4, e3 .got, e3 .left, e2, e1, e0, le-ltb (length buf) 32 l)
+      task ≡ taskOf got → n ≡ sizeOf got → acted text (r .core) (r .verdict) ≡ performedOf task (take n squeezed) (k .device) .next →
+      o ≡ outcomeOf got (k .address) (r .verdict) (k .device .core) → ready ≡ readyOf (r .core) → Spoken o ready buf s buf′ →
+      after (reply (record { address = k .address; line = h .line; frame = squeezed; device = device text (r .core) }) s) buf′ ≡ byteOf k b buf .next
+  unfolding byteOf heardOf dealtOf
+  heard buf buf′ h frame squeezed text got task n o r ready s ours l e0 e1 e2 e3 e4 e5 e6 e7 e8 e9 =
+      let told : Spoken (outcomeOf got (k .address) (r .verdict) (k .device .core)) (readyOf (r .core)) buf s buf′ = rw (e7, e8) at e9 in
+      simp (le-ltb (length buf) 32 l, ← e0, ← e1, ← e2, ← e3 .got, ← e3 .left, ← e4, ← e5, ← e6, told .said, told .left)

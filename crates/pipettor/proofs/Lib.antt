@@ -2,7 +2,6 @@ pub mod Tasks
 pub mod Frames
 pub mod Controllers
 pub mod Bytes
-pub mod Errors
 pub mod Keeps
 pub mod Listening
 pub mod Keeping

@@ -6,24 +6,28 @@ use Prim.Native.Nat.{ℕ}
 use lib.Dec.{ltb}
 use lib.ListN.{length}
 use Rattle.basics.specs.Choice.{if_then_else_}
-use Rattle.command.specs.declared.Refusal.{Refusal}
-use Rattle.command.specs.Command.{refusalNumber}
+use Rattle.command.specs.declared.refusal.Refusal.{Refusal}
+use Rattle.command.specs.declared.refusal.Refusal.the-variants as R
+use Rattle.command.specs.declared.refusal.Verdict.{Verdict}
+use Rattle.command.specs.declared.refusal.Verdict.the-variants.{Fine, Refused}
+use Rattle.command.specs.Numbers.{refusalNumber, verdictNumber}
 use Rattle.text.specs.declared.Question.{Question}
 use Rattle.text.specs.declared.Control.{Control}
 use Rattle.text.specs.declared.Data.{Data}
 use Rattle.text.specs.declared.Data.the-variants as D
 use Rattle.line.specs.declared.Report.{Report}
+use Rattle.line.specs.declared.Report.the-variants.{Nothing}
 use Rattle.line.specs.declared.Said as Line
 use Rattle.line.specs.declared.Said.the-variants as L
 use Rattle.line.specs.Answer.{statusOf, answerOf, Answered}
-use Rattle.buffer.specs.declared.course.State.{State}
 use Rattle.machine.specs.declared.step.Core.{Core}
 use Rattle.buffer.specs.declared.order.Action.{Action}
-use Rattle.buffer.specs.declared.order.Order.{Order}
-use Rattle.buffer.specs.declared.order.Order.the-variants as O
-use Rattle.buffer.specs.Order.{orderOf}
+use Rattle.machine.specs.declared.act.Done.{Done}
+use Rattle.machine.specs.Act.{coreError, acted, actOf}
+use Rattle.machine.specs.Device.{device}
 use Rattle.pipettor.specs.declared.address.Address.{Address}
 use Rattle.reports.specs.declared.Told.{Told}
+use Rattle.reports.specs.declared.Told.the-variants.{No}
 use Rattle.pipettor.specs.declared.acting.Got.{Got}
 use Rattle.pipettor.specs.declared.acting.Got.the-variants as G
 use Rattle.pipettor.specs.declared.acting.Task.{Task}
@@ -34,57 +38,69 @@ use Rattle.pipettor.specs.declared.Said.{Said}
 use Rattle.pipettor.specs.declared.Said.the-variants.{Silent, Answer, S1}
 use Rattle.reports.specs.Reports.{tellOf}
 use Rattle.pipettor.specs.Address.{letterOf}
-use Rattle.pipettor.specs.Byte.{actionOf, stringAction, taskOf, taskCode, taskDone, taskText, toldCode, outcomeOf, saidOf, writtenOf, Spoken}
+use Rattle.pipettor.specs.Byte.{actionOf, stringAction, taskOf, performedOf, toldCode, outcomeOf, saidOf, writtenOf, Spoken}
 
 -- by the case at hand
 pub told-case : (t j : Told) (error : ℕ) (r : Outcome) → t ≡ j → r ≡ toldCode j error → r ≡ toldCode t error
 told-case t j error r p e = rw p e
 
 module _ (d j : Data) (p : d ≡ j) where
-  pub task-data : (s : State) (r : Task) → r ≡ taskOf (G.Data j) s → r ≡ taskOf (G.Data d) s
-  task-data s r e = rw p e
+  pub task-data : (r : Task) → r ≡ taskOf (G.Data j) → r ≡ taskOf (G.Data d)
+  task-data r e = rw p e
 
-  pub outcome-data : (a : Address) (code : ℕ) (c : Core) (r : Outcome) → r ≡ outcomeOf (G.Data j) a code c → r ≡ outcomeOf (G.Data d) a code c
-  outcome-data a code c r e = rw p e
+  pub outcome-data : (a : Address) (v : Verdict) (c : Core) (r : Outcome) → r ≡ outcomeOf (G.Data j) a v c → r ≡ outcomeOf (G.Data d) a v c
+  outcome-data a v c r e = rw p e
 
 module _ (g j : Got) (p : g ≡ j) where
-  pub task-got : (s : State) (r : Task) → r ≡ taskOf j s → r ≡ taskOf g s
-  task-got s r e = rw p e
+  pub task-got : (r : Task) → r ≡ taskOf j → r ≡ taskOf g
+  task-got r e = rw p e
 
-  pub outcome-got : (a : Address) (code : ℕ) (c : Core) (r : Outcome) → r ≡ outcomeOf j a code c → r ≡ outcomeOf g a code c
-  outcome-got a code c r e = rw p e
-
-module _ (t j : Task) (p : t ≡ j) where
-  pub code-task : (stored added : List ℕ) (r : ℕ) → r ≡ taskCode j stored added → r ≡ taskCode t stored added
-  code-task stored added r e = rw p e
-
-  pub done-task : (code n : ℕ) (c r : Core) → r ≡ taskDone j code n c .next → r ≡ taskDone t code n c .next
-  done-task code n c r e = rw p e
-
-  pub text-task : (code len : ℕ) (added text r : List ℕ) → r ≡ taskText j code len added text → r ≡ taskText t code len added text
-  text-task code len added text r e = rw p e
+  pub outcome-got : (a : Address) (v : Verdict) (c : Core) (r : Outcome) → r ≡ outcomeOf j a v c → r ≡ outcomeOf g a v c
+  outcome-got a v c r e = rw p e
 
 -- what data ask
-module _ (d : Data) (s : State) (o : Order) where
-  pub task-control : (c : Control) (a : Action) → d ≡ D.Control c → a ≡ actionOf c → o ≡ orderOf a s → T.Do o ≡ taskOf (G.Data d) s
-  unfolding taskOf
-  task-control c a p q e = rw (p, e, q)
-
-  pub task-text : (n : ℕ) (run : Bool) (a : Action) → d ≡ D.Text n run → a ≡ stringAction run → o ≡ orderOf a s → T.Do o ≡ taskOf (G.Data d) s
-  unfolding taskOf
-  task-text n run a p q e = rw (p, e, q)
-
-pub task-wrong : (d : Data) (s : State) (x : Refusal) (code : ℕ) → d ≡ D.Wrong x → code ≡ refusalNumber x → T.Do (O.Refuse code) ≡ taskOf (G.Data d) s
+pub task-control : (d : Data) (c : Control) (a : Action) → d ≡ D.Control c → a ≡ actionOf c → T.Act a ≡ taskOf (G.Data d)
 unfolding taskOf
-task-wrong d s x code p q = rw (p, q)
+task-control d c a p q = rw (p, q)
+
+pub task-text : (d : Data) (n : ℕ) (run : Bool) (a : Action) → d ≡ D.Text n run → a ≡ stringAction run → T.Act a ≡ taskOf (G.Data d)
+unfolding taskOf
+task-text d n run a p q = rw (p, q)
+
+-- what is done
+module _ (t : Task) (added text : List ℕ) (c : Core) where
+  pub leaves : t ≡ T.Leave → acted text c Fine ≡ performedOf t added (device text c) .next
+  unfolding performedOf
+  leaves p = rw p
+
+  pub notes : (why : Refusal) (code : ℕ) (r : Core) → t ≡ T.Refuse why → code ≡ refusalNumber why → r ≡ coreError code c → acted text r (Refused why) ≡ performedOf t added (device text c) .next
+  unfolding performedOf
+  notes why code r p q e = rw (p, e, q)
+
+  pub performs : (a : Action) (after : List ℕ) (r : Done) → t ≡ T.Act a → acted after (r .core) (r .verdict) ≡ actOf a added (device text c) .next → acted after (r .core) (r .verdict) ≡ performedOf t added (device text c) .next
+  unfolding performedOf
+  performs a after r p e = rw p e
+
+-- what is answered: a refused report with its number, other data with theirs
+pub tells-no : (t : Told) (code error : ℕ) → t ≡ No → code ≡ refusalNumber R.Report → Tell Nothing code ≡ toldCode t error
+tells-no t code error p q = rw (p, q)
+
+pub outcome-number :
+    (d j : Data) (a : Address) (v : Verdict) (c : Core) (code : ℕ) → d ≡ j → code ≡ verdictNumber v → Tell Nothing (verdictNumber v) ≡ outcomeOf (G.Data j) a v c →
+    Tell Nothing code ≡ outcomeOf (G.Data d) a v c
+outcome-number d j a v c code p q e = rw (p, q) e
+
+pub outcome-wrong-report : (d : Data) (a : Address) (v : Verdict) (c : Core) (code : ℕ) → d ≡ D.WrongReport → code ≡ refusalNumber R.Report → Tell Nothing code ≡ outcomeOf (G.Data d) a v c
+unfolding outcomeOf
+outcome-wrong-report d a v c code p q = rw (p, q)
 
 -- a report's answer
 pub outcome-report :
-    (d : Data) (q : Question) (a : Address) (ours code : ℕ) (c : Core) (t : Told) (r : Outcome) →
+    (d : Data) (q : Question) (a : Address) (ours : ℕ) (v : Verdict) (c : Core) (t : Told) (r : Outcome) →
     d ≡ D.Report q → ours ≡ letterOf a → t ≡ tellOf q ours (c .body) (c .course .state) (c .course .error) →
-    r ≡ toldCode t (c .course .error) → r ≡ outcomeOf (G.Data d) a code c
+    r ≡ toldCode t (c .course .error) → r ≡ outcomeOf (G.Data d) a v c
 unfolding outcomeOf
-outcome-report d q a ours code c t r p l k e = rw (p, ← l, ← k) e
+outcome-report d q a ours v c t r p l k e = rw (p, ← l, ← k) e
 
 -- what is said
 pub spoken-case : (o j : Outcome) (ready : Bool) (before : List ℕ) (r : Said) (after : List ℕ) → o ≡ j → Spoken j ready before r after → Spoken o ready before r after

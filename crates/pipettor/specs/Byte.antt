@@ -7,7 +7,10 @@ use lib.Dec.{ltb, eqb}
 use lib.ListN.{length, take}
 use Rattle.basics.specs.Choice.{if_then_else_}
 use Rattle.basics.specs.Lay.{over}
-use Rattle.command.specs.Command.{refusalNumber}
+use Rattle.command.specs.declared.refusal.Refusal.the-variants as R
+use Rattle.command.specs.declared.refusal.Verdict.{Verdict}
+use Rattle.command.specs.declared.refusal.Verdict.the-variants.{Fine, Refused}
+use Rattle.command.specs.Numbers.{refusalNumber, verdictNumber}
 use Rattle.text.specs.declared.Question.{Question}
 use Rattle.text.specs.declared.Control.{Control}
 use Rattle.text.specs.declared.Control.the-variants.{Run, Stop, Again, Clear, Reset}
@@ -21,15 +24,12 @@ use Rattle.line.specs.declared.Deed.the-variants as W
 use Rattle.line.specs.Wire.{hearOf, keepOf}
 use Rattle.line.specs.Answer.{statusOf, answerOf}
 use Rattle.motion.specs.Events.{Turn, quiet}
-use Rattle.buffer.specs.declared.course.State.{State}
 use Rattle.machine.specs.declared.step.Core.{Core}
 use Rattle.buffer.specs.declared.order.Action.{Action}
 use Rattle.buffer.specs.declared.order.Action.the-variants as A
-use Rattle.buffer.specs.declared.order.Order.the-variants as O
 use Rattle.machine.specs.Run.{readyOf}
-use Rattle.buffer.specs.Order.{orderOf, codeOf, storedBy}
-use Rattle.machine.specs.Act.{actedOf}
-use Rattle.machine.specs.Device.{device}
+use Rattle.machine.specs.declared.Device.{Device}
+use Rattle.machine.specs.Act.{coreError, Acted, acted, actOf}
 use Rattle.pipettor.specs.declared.address.Address.{Address}
 use Rattle.reports.specs.declared.Told.{Told}
 use Rattle.reports.specs.declared.Told.the-variants.{Says, No}
@@ -86,15 +86,15 @@ abbrev pub stringAction : Bool → Action
 stringAction true = A.Launch
 stringAction false = A.Store
 
--- what data ask of the buffer: reports nothing; what is refused in reading, its number
-unfoldable pub taskOf : Got → State → Task
-taskOf G.Nothing s = T.Leave
-taskOf (G.Data (D.Report q)) s = T.Leave
-taskOf (G.Data D.WrongReport) s = T.Leave
-taskOf (G.Data (D.Control c)) s = T.Do (orderOf (actionOf c) s)
-taskOf (G.Data (D.Text n run)) s = T.Do (orderOf (stringAction run) s)
-taskOf (G.Data (D.Wrong r)) s = T.Do (O.Refuse (refusalNumber r))
-taskOf (G.Data D.TooLong) s = T.Do (O.Refuse 15)
+-- what data ask of the device: reports nothing; what is refused in reading, that refusal
+unfoldable pub taskOf : Got → Task
+taskOf G.Nothing = T.Leave
+taskOf (G.Data (D.Report q)) = T.Leave
+taskOf (G.Data D.WrongReport) = T.Leave
+taskOf (G.Data (D.Control c)) = T.Act (actionOf c)
+taskOf (G.Data (D.Text n run)) = T.Act (stringAction run)
+taskOf (G.Data (D.Wrong m)) = T.Refuse (R.Misread m)
+taskOf (G.Data D.TooLong) = T.Refuse R.TooLong
 
 -- how many characters come with it
 abbrev pub sizeOf : Got → ℕ
@@ -106,34 +106,28 @@ sizeOf (G.Data (D.Text n run)) = n
 sizeOf (G.Data (D.Wrong r)) = 0
 sizeOf (G.Data D.TooLong) = 0
 
-unfoldable pub taskCode : Task → List ℕ → List ℕ → ℕ
-taskCode T.Leave stored added = 0
-taskCode (T.Do order) stored added = codeOf order stored added
-
-unfoldable pub taskDone : Task → ℕ → ℕ → Core → Turn Core
-taskDone T.Leave code n c = quiet c
-taskDone (T.Do order) code n c = actedOf order code n c
-
-unfoldable pub taskText : Task → ℕ → ℕ → List ℕ → List ℕ → List ℕ
-taskText T.Leave code len added text = text
-taskText (T.Do order) code len added text = storedBy order code len added text
+-- what a task does to a device, with the characters that come with it
+unfoldable pub performedOf : Task → List ℕ → Device → Turn Acted
+performedOf T.Leave added d = quiet (acted (d .text) (d .core) Fine)
+performedOf (T.Refuse why) added d = quiet (acted (d .text) (coreError (refusalNumber why) (d .core)) (Refused why))
+performedOf (T.Act action) added d = actOf action added d
 
 -- what is answered: "an accepted report's [status] carries the last error, an accepted other frame's 0, a refused frame's its own code"
 abbrev pub toldCode : Told → ℕ → Outcome
 toldCode (Says report) error = Tell report error
-toldCode No error = Tell Nothing 3
+toldCode No error = Tell Nothing (refusalNumber R.Report)
 
 abbrev pub toldOf : Question → Address → Core → Told
 toldOf q address c = tellOf q (letterOf address) (c .body) (c .course .state) (c .course .error)
 
-unfoldable pub outcomeOf : Got → Address → ℕ → Core → Outcome
-outcomeOf G.Nothing address code c = Mute
-outcomeOf (G.Data (D.Report q)) address code c = toldCode (toldOf q address c) (c .course .error)
-outcomeOf (G.Data D.WrongReport) address code c = Tell Nothing 3
-outcomeOf (G.Data (D.Control k)) address code c = Tell Nothing code
-outcomeOf (G.Data (D.Text n run)) address code c = Tell Nothing code
-outcomeOf (G.Data (D.Wrong r)) address code c = Tell Nothing code
-outcomeOf (G.Data D.TooLong) address code c = Tell Nothing code
+unfoldable pub outcomeOf : Got → Address → Verdict → Core → Outcome
+outcomeOf G.Nothing address v c = Mute
+outcomeOf (G.Data (D.Report q)) address v c = toldCode (toldOf q address c) (c .course .error)
+outcomeOf (G.Data D.WrongReport) address v c = Tell Nothing (refusalNumber R.Report)
+outcomeOf (G.Data (D.Control k)) address v c = Tell Nothing (verdictNumber v)
+outcomeOf (G.Data (D.Text n run)) address v c = Tell Nothing (verdictNumber v)
+outcomeOf (G.Data (D.Wrong m)) address v c = Tell Nothing (verdictNumber v)
+outcomeOf (G.Data D.TooLong) address v c = Tell Nothing (verdictNumber v)
 
 unfoldable pub saidOf : Outcome → Bool → Said
 saidOf Mute ready = Silent
@@ -163,28 +157,32 @@ after r buf = record { reply = r; buffer = buf }
 abbrev pub reply : Controller → Said → Reply
 reply c said = record { controller = c; said = said }
 
--- a byte that is heard: the receiver, the frame, what it asks, what the buffer does, what is answered
+-- what was brought, with the characters that come with it: what is left of the device, what is said, and the answer buffer
+pub record Exchange : Type 0 where
+  pub device : Device
+  pub said : Said
+  pub buffer : List ℕ
+
+-- "Ready or busy is taken after the frame has acted."
+unfoldable pub dealtOf : Got → List ℕ → Address → Device → List ℕ → Turn Exchange
+dealtOf got added a d buf =
+    let turn = performedOf (taskOf got) added d in
+    let outcome = outcomeOf got a (turn .next .verdict) (d .core) in
+    let ready = readyOf (turn .next .device .core) in
+    record { next = record { device = turn .next .device; said = saidOf outcome ready; buffer = writtenOf outcome ready buf }; events = turn .events }
+
+-- a byte that is heard: the receiver, the frame, what it brings, and what comes of that
 unfoldable pub heardOf : Controller → ℕ → List ℕ → Turn After
 heardOf k b buf =
     let h = hearOf (k .line) b in
-    let c = k .device .core in
     let ours = letterOf (k .address) in
     let frame = keepOf (k .frame) (h .deed) b in
     let got = gotOf ours (h .deed) frame in
     let squeezed = squeezedOf ours (h .deed) frame in
-    let added = take (sizeOf got) squeezed in
-    let task = taskOf got (c .course .state) in
-    let code = taskCode task (take (c .course .len) (k .device .text)) added in
-    let turn = taskDone task code (sizeOf got) c in
-    let text = taskText task code (c .course .len) added (k .device .text) in
-    let outcome = outcomeOf got (k .address) code c in
-    let ready = readyOf (turn .next) in
+    let e = dealtOf got (take (sizeOf got) squeezed) (k .address) (k .device) buf in
     record {
-      next =
-          after
-          (reply (record { address = k .address; line = h .line; frame = squeezed; device = device text (turn .next) }) (saidOf outcome ready))
-          (writtenOf outcome ready buf);
-      events = turn .events;
+      next = after (reply (record { address = k .address; line = h .line; frame = squeezed; device = e .next .device }) (e .next .said)) (e .next .buffer);
+      events = e .events;
     }
 
 -- "S1 comes before everything else": "controller and buffer unchanged"

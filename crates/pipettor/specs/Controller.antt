@@ -1,12 +1,16 @@
 -- Making, and what the host calls beside bytes.
 use Prim.Native.Nat.{ℕ}
+use mathlib.Core.Bool.{Bool}
 use lib.ListN.{replicate}
 use Rattle.line.specs.declared.Line.the-variants.{Outside}
 use Rattle.motion.specs.Events.{Turn}
 use Rattle.machine.specs.declared.Device.{Device}
+use Rattle.machine.specs.declared.Turned.{Turned}
+use Rattle.machine.specs.Run.{readyOf}
 use Rattle.machine.specs.Device.{freshOf, tickOf, haltedOf, advanceOf, ranOf}
 use Rattle.pipettor.specs.declared.address.Address.{Address}
 use Rattle.pipettor.specs.declared.Controller.{Controller}
+use Rattle.pipettor.specs.declared.Ticked.{Ticked}
 use Rattle.pipettor.specs.declared.Ran.{Ran}
 
 abbrev pub on : Device → Controller → Controller
@@ -15,14 +19,22 @@ on d k = record { address = k .address; line = k .line; frame = k .frame; device
 unfoldable pub madeOf : Address → Turn Controller
 madeOf a = record { next = record { address = a; line = Outside; frame = replicate 320 0; device = freshOf .next }; events = freshOf .events }
 
-unfoldable pub tickedOf : Controller → Turn Controller
-tickedOf k = let t = tickOf (k .device) in record { next = on (t .next) k; events = t .events }
+-- a controller after ticks, and why its run fails if it does
+abbrev pub ticked : Turned → Controller → Ticked
+ticked t k = record { controller = on (t .device) k; failed = t .failed }
+
+unfoldable pub tickedOf : Controller → Turn Ticked
+tickedOf k = let t = tickOf (k .device) in record { next = ticked (t .next) k; events = t .events }
 
 unfoldable pub stoppedOf : Controller → Turn Controller
 stoppedOf k = let t = haltedOf (k .device) in record { next = on (t .next) k; events = t .events }
 
-unfoldable pub advancedOf : ℕ → Controller → Controller
-advancedOf n k = on (advanceOf n (k .device)) k
+unfoldable pub advancedOf : ℕ → Controller → Ticked
+advancedOf n k = ticked (advanceOf n (k .device)) k
 
 unfoldable pub runOf : ℕ → Controller → Ran
-runOf n k = let r = ranOf n (k .device) in record { controller = on (r .device) k; used = r .used }
+runOf n k = let r = ranOf n (k .device) in record { ticked = ticked (r .turned) k; used = r .used }
+
+-- "It is ready in all but Running."
+abbrev pub readyIs : Controller → Bool
+readyIs k = readyOf (k .device .core)

@@ -4,3 +4,4 @@ pub mod Controller
 pub mod Valid
 pub mod Listening
 pub mod Held
+pub mod Lent

@@ -1,12 +1,12 @@
 // From a frame's data to what the buffer does and what is answered.
 use crate::Said;
 use crate::address::Address;
-use buffer::course::State;
-use buffer::order;
 use buffer::order::Action;
-use buffer::order::Order;
+use command::refusal::Refusal;
+use command::refusal::Verdict;
 use line::Deed;
 use line::Report;
+use machine::act::Done;
 use machine::step::Core;
 use reports::Told;
 use text::Control;
@@ -14,8 +14,10 @@ use text::Data;
 ghost use mathlib.Core.Path.{_≡_};
 ghost use lib.ListN.{length};
 ghost use Rattle.machine.specs.Valid.{Valid};
+ghost use Rattle.machine.specs.Act.{acted};
+ghost use Rattle.machine.specs.Device.{device};
 ghost use Rattle.reports.specs.Reports.{Tellable};
-ghost use Rattle.pipettor.specs.Byte.{actionOf, stringAction, taskOf, sizeOf, taskCode, taskDone, taskText, toldCode, outcomeOf, Fetched, Gotten, Spoken};
+ghost use Rattle.pipettor.specs.Byte.{actionOf, stringAction, taskOf, sizeOf, performedOf, toldCode, outcomeOf, Fetched, Gotten, Spoken};
 
 // No frame to us, or its data.
 pub enum Got {
@@ -23,10 +25,11 @@ pub enum Got {
     Data(Data),
 }
 
-// What the buffer is asked: to be left alone, or an order.
+// What the device is asked: to be left alone, to take note of a refusal, or a string or a control.
 pub enum Task {
     Leave,
-    Do(Order),
+    Refuse(Refusal),
+    Act(Action),
 }
 
 // What is answered: nothing, or a report with a code in the status byte.
@@ -85,17 +88,17 @@ fn string_action(run: bool) -> Action
     Action::Store
 }
 
-// What data ask of the buffer in a state.
-fn task_for(data: Data, state: State) -> Task
-    ensures { λ r. ⌜ r ≡ taskOf (Got.Data «data») state ⌝ }
+// What data ask of the device.
+fn task_for(data: Data) -> Task
+    ensures { λ r. ⌜ r ≡ taskOf (Got.Data «data») ⌝ }
 {
     match data {
         Data::Report(_) => Task::Leave,
         Data::WrongReport => Task::Leave,
-        Data::Control(c) => Task::Do(action(c).order(state)),
-        Data::Text { size: _, run } => Task::Do(string_action(run).order(state)),
-        Data::Wrong(r) => Task::Do(Order::Refuse(r.number())),
-        Data::TooLong => Task::Do(Order::Refuse(15)),
+        Data::Control(c) => Task::Act(action(c)),
+        Data::Text { size: _, run } => Task::Act(string_action(run)),
+        Data::Wrong(m) => Task::Refuse(Refusal::Misread(m)),
+        Data::TooLong => Task::Refuse(Refusal::TooLong),
     }
 }
 
@@ -113,12 +116,12 @@ fn size_of(data: Data) -> usize
 }
 
 impl Got {
-    pub fn task(self, state: State) -> Task
-        ensures { λ r. ⌜ r ≡ taskOf self state ⌝ }
+    pub fn task(self) -> Task
+        ensures { λ r. ⌜ r ≡ taskOf self ⌝ }
     {
         match self {
             Got::Nothing => Task::Leave,
-            Got::Data(data) => task_for(data, state),
+            Got::Data(data) => task_for(data),
         }
     }
 
@@ -133,31 +136,21 @@ impl Got {
 }
 
 impl Task {
-    pub fn code(self, stored: &[u8], added: &[u8]) -> u8
-        ensures { λ r. ⌜ r ≡ taskCode self (now (stored .entry)) (now (added .entry)) ⌝ }
-    {
-        match self {
-            Task::Leave => 0,
-            Task::Do(order) => order.code(stored, added),
-        }
-    }
-
-    pub fn done(self, code: u8, n: u16, c: Core) -> Core
+    // Done to a core and its text's array, with the characters that come with it.
+    pub fn perform(self, c: Core, added: &[u8], text: &mut [u8; 256]) -> Done
         requires { ⌜ Valid c ⌝ }
-        ensures { λ r. ⌜ r ≡ taskDone self code n c .next ⌝ }
+        ensures { λ r. ⌜ acted (now (text .exit)) (r .core) (r .verdict) ≡ performedOf self (now (added .entry)) (device (now (text .entry)) c) .next ⌝ }
     {
         match self {
-            Task::Leave => c,
-            Task::Do(order) => c.act(order, code, n),
-        }
-    }
-
-    pub fn store(self, code: u8, len: usize, added: &[u8], text: &mut [u8])
-        ensures { λ _. ⌜ now (text .exit) ≡ taskText self code len (now (added .entry)) (now (text .entry)) ⌝ }
-    {
-        match self {
-            Task::Leave => {}
-            Task::Do(order) => order::store(order, code, len, added, text),
+            Task::Leave => Done {
+                core: c,
+                verdict: Verdict::Fine,
+            },
+            Task::Refuse(why) => Done {
+                core: c.with_error(why.number()),
+                verdict: Verdict::Refused(why),
+            },
+            Task::Act(action) => c.act(action, added, text),
         }
     }
 }
@@ -168,14 +161,14 @@ fn told(told: Told, error: u8) -> Outcome
 {
     match told {
         Told::Says(report) => Outcome::Tell(report, error),
-        Told::No => Outcome::Tell(Report::Nothing, 3),
+        Told::No => Outcome::Tell(Report::Nothing, Refusal::Report.number()),
     }
 }
 
-// What is answered to data, the buffer having answered with a code.
-fn answer_to(data: Data, address: Address, code: u8, c: Core) -> Outcome
+// What is answered to data that were accepted or refused, the core being what it was before them.
+fn answer_to(data: Data, address: Address, verdict: Verdict, c: Core) -> Outcome
     requires { ⌜ Tellable (c .body) (c .course .error) ⌝ }
-    ensures { λ r. ⌜ r ≡ outcomeOf (Got.Data «data») address code c ⌝ }
+    ensures { λ r. ⌜ r ≡ outcomeOf (Got.Data «data») address verdict c ⌝ }
 {
     match data {
         Data::Report(q) => {
@@ -188,22 +181,22 @@ fn answer_to(data: Data, address: Address, code: u8, c: Core) -> Outcome
                 error,
             )
         }
-        Data::WrongReport => Outcome::Tell(Report::Nothing, 3),
-        Data::Control(_) => Outcome::Tell(Report::Nothing, code),
-        Data::Text { size: _, run: _ } => Outcome::Tell(Report::Nothing, code),
-        Data::Wrong(_) => Outcome::Tell(Report::Nothing, code),
-        Data::TooLong => Outcome::Tell(Report::Nothing, code),
+        Data::WrongReport => Outcome::Tell(Report::Nothing, Refusal::Report.number()),
+        Data::Control(_) => Outcome::Tell(Report::Nothing, verdict.number()),
+        Data::Text { size: _, run: _ } => Outcome::Tell(Report::Nothing, verdict.number()),
+        Data::Wrong(_) => Outcome::Tell(Report::Nothing, verdict.number()),
+        Data::TooLong => Outcome::Tell(Report::Nothing, verdict.number()),
     }
 }
 
 impl Got {
-    pub fn outcome(self, address: Address, code: u8, c: Core) -> Outcome
+    pub fn outcome(self, address: Address, verdict: Verdict, c: Core) -> Outcome
         requires { ⌜ Tellable (c .body) (c .course .error) ⌝ }
-        ensures { λ r. ⌜ r ≡ outcomeOf self address code c ⌝ }
+        ensures { λ r. ⌜ r ≡ outcomeOf self address verdict c ⌝ }
     {
         match self {
             Got::Nothing => Outcome::Mute,
-            Got::Data(data) => answer_to(data, address, code, c),
+            Got::Data(data) => answer_to(data, address, verdict, c),
         }
     }
 }

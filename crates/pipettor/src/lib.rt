@@ -1,15 +1,19 @@
 // The controller of one pipettor: bytes in, answers out, ticks between them.
 mod acting;
 pub mod address;
+pub mod lent;
 
 use address::Address;
+use command::refusal::Verdict;
+use lent::Parts;
 use line::Line;
 use machine::Device;
+use machine::Turned;
 use machine::Used;
 ghost use mathlib.Core.Path.{_≡_};
 ghost use Rattle.pipettor.specs.Valid.{Valid};
 ghost use Rattle.pipettor.specs.Byte.{after, byteOf};
-ghost use Rattle.pipettor.specs.Controller.{on, madeOf, tickedOf, stoppedOf, advancedOf, runOf};
+ghost use Rattle.pipettor.specs.Controller.{on, madeOf, ticked, tickedOf, stoppedOf, advancedOf, runOf, readyIs};
 ghost use Rattle.pipettor.specs.Listening.{UpToCr, listenedOf};
 
 // The receiver's line and the frame in hand; the buffer, its text and the plunger.
@@ -38,8 +42,14 @@ pub struct Listened {
     pub n: usize,
 }
 
-pub struct Ran {
+// A controller after ticks, and why its run fails if it does.
+pub struct Ticked {
     pub controller: Controller,
+    pub failed: Verdict,
+}
+
+pub struct Ran {
+    pub ticked: Ticked,
     pub used: Used,
 }
 
@@ -87,36 +97,26 @@ impl Controller {
         requires { ⌜ Valid self ⌝ }
         ensures { λ r. ⌜ after r (now (buf .exit)) ≡ byteOf self b (now (buf .entry)) .next ⌝ }
     {
-        if buf.len() < 32 {
-            return Reply {
-                controller: self,
-                said: Said::S1,
-            };
-        }
         let address = self.address;
         let line = self.line;
         let mut frame = self.frame;
         let device = self.device;
         let mut text = device.text;
         let core = device.core;
-        let course = core.course;
-        let state = course.state;
-        let len = course.len;
-        let heard = line.hear(b);
-        let deed = heard.deed;
-        let next = heard.line;
-        line::keep(&mut frame, deed, b);
-        let got = acting::get(&mut frame, deed, address.letter());
-        let task = got.task(state);
-        let n = got.size();
-        let code = task.code(&text[..len], &frame[..n]);
-        task.store(code, len, &frame[..n], &mut text);
-        let outcome = got.outcome(address, code, core);
-        let done = task.done(code, n as u16, core);
-        let said = outcome.say(done.ready(), buf);
+        let parts = Parts {
+            address,
+            line,
+            core,
+        };
+        let spoke = parts.byte(b, &mut frame, &mut text, buf);
+        let after = spoke.parts;
+        let said = spoke.said;
+        let same = after.address;
+        let next = after.line;
+        let done = after.core;
         Reply {
             controller: Controller {
-                address,
+                address: same,
                 line: next,
                 frame,
                 device: Device { text, core: done },
@@ -161,22 +161,33 @@ impl Controller {
         }
     }
 
+    fn ticked(self, turned: Turned) -> Ticked
+        ensures { λ r. ⌜ r ≡ ticked turned self ⌝ }
+    {
+        let device = turned.device;
+        let failed = turned.failed;
+        Ticked {
+            controller: self.on(device),
+            failed,
+        }
+    }
+
     // A tick of 10 ms.
-    pub fn tick(self) -> Controller
+    pub fn tick(self) -> Ticked
         requires { ⌜ Valid self ⌝ }
         ensures { λ r. ⌜ r ≡ tickedOf self .next ⌝ }
     {
         let device = self.device;
-        self.on(device.tick())
+        self.ticked(device.tick())
     }
 
     // Exactly n ticks, ready or not.
-    pub fn advance(self, n: u32) -> Controller
+    pub fn advance(self, n: u32) -> Ticked
         requires { ⌜ Valid self ⌝ }
         ensures { λ r. ⌜ r ≡ advancedOf n self ⌝ }
     {
         let device = self.device;
-        self.on(device.advance(n))
+        self.ticked(device.advance(n))
     }
 
     // Up to n ticks, until ready.
@@ -186,12 +197,20 @@ impl Controller {
     {
         let device = self.device;
         let ran = device.run(n);
-        let after = ran.device;
+        let turned = ran.turned;
         let used = ran.used;
         Ran {
-            controller: self.on(after),
+            ticked: self.ticked(turned),
             used,
         }
+    }
+
+    pub fn ready(self) -> bool
+        ensures { λ r. ⌜ r ≡ readyIs self ⌝ }
+    {
+        let device = self.device;
+        let core = device.core;
+        core.ready()
     }
 
     // T, from the host.

@@ -121,7 +121,8 @@ fn run(c: Controller, n: u32) -> Controller
     let ran = c.run(n);
     let u = ran.used;
     used(u);
-    ran.controller
+    let ticked = ran.ticked;
+    ticked.controller
 }
 
 // What a controller answers in the state it is in, and that runs which are refused leave it there.
@@ -135,12 +136,20 @@ fn ask(c: Controller) -> Controller
     send(busy, b"1?67")
 }
 
+fn wait(c: Controller, n: u32) -> Controller
+    requires { ⌜ Held c ⌝ }
+    ensures { λ r. ⌜ Held r ⌝ }
+{
+    let ticked = c.advance(n);
+    ticked.controller
+}
+
 fn prepared(first: &[u8], ticks: u32, second: &[u8], more: u32) -> Controller
     ensures { λ r. ⌜ Held r ⌝ }
 {
     let fresh = Controller::fresh(Address::One);
-    let c = send(fresh, first).advance(ticks);
-    send(c, second).advance(more)
+    let heard = wait(send(fresh, first), ticks);
+    wait(send(heard, second), more)
 }
 
 // A string, ticks, another string, ticks; and then what the controller answers.

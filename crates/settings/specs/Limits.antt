@@ -18,6 +18,10 @@ a to b = record { least = a; most = b }
 unfoldable pub within : Range → ℕ → Bool
 within range n = leb (range .least) n && leb n (range .most)
 
+-- "above 44,000,000,000": the end of travel, in millionths of an increment
+abbrev pub travelMost : ℕ
+travelMost = 44000000000
+
 abbrev pub rangeOf : Quantity → Range
 rangeOf Home = 100 to 20000  -- W, increments a second
 rangeOf Increments = 0 to 44000  -- A P D

@@ -65,6 +65,8 @@ impl Range {
 }
 
 impl Settings {
+    // The end of travel, in millionths of an increment.
+    pub const TRAVEL: u64 = 44_000_000_000;
     // W: increments a second.
     pub const HOME_LEAST: u32 = 100;
 

@@ -8,7 +8,7 @@ use Rattle.operand.specs.Text.{run, rest}
 use Rattle.operand.specs.Number.{digits, decimalsOf, followedOf, numberOf}
 use Rattle.command.specs.declared.Command.{Command}
 use Rattle.command.specs.declared.Command.the-variants as C
-use Rattle.command.specs.declared.Refusal.the-variants.{Letter, Operand}
+use Rattle.command.specs.declared.refusal.Misread.the-variants.{Letter, Operand}
 use Rattle.command.specs.Table.{letterOf, commandOf, made, wholeOf, takenOf}
 use Rattle.command.specs.Command.{placed, foundIn}
 use Rattle.text.specs.declared.Control.the-variants.{Run, Reset}

@@ -13,8 +13,8 @@ use Rattle.command.specs.declared.Formed.{Formed}
 use Rattle.command.specs.declared.Formed.the-variants.{Made, NoLetter, WrongOperand}
 use Rattle.command.specs.declared.Found.{Found}
 use Rattle.command.specs.declared.Found.the-variants as F
-use Rattle.command.specs.declared.Refusal.{Refusal}
-use Rattle.command.specs.declared.Refusal.the-variants as R
+use Rattle.command.specs.declared.refusal.Misread.{Misread}
+use Rattle.command.specs.declared.refusal.Misread.the-variants as R
 use Rattle.command.specs.Table.{letterOf, commandOf}
 use Rattle.command.specs.Command.{placed, foundIn}
 use Rattle.command.proofs.Reach.{an-operand-byte-is-no-letter, a-command-in-front}
@@ -37,17 +37,17 @@ abbrev pub moved : ℕ → List Step → List Step
 moved k [] = []
 moved k (s ∷ steps) = movedStep k s ∷ moved k steps
 
-abbrev movedRefusal : ℕ → Refusal → Refusal
-movedRefusal k (R.Letter place) = R.Letter (k + place)
-movedRefusal k (R.Operand place) = R.Operand (k + place)
+abbrev movedMisread : ℕ → Misread → Misread
+movedMisread k (R.Letter place) = R.Letter (k + place)
+movedMisread k (R.Operand place) = R.Operand (k + place)
 
 abbrev movedReading : ℕ → Reading → Reading
 movedReading k (reads steps) = reads (moved k steps)
-movedReading k (wrong r) = wrong (movedRefusal k r)
+movedReading k (wrong r) = wrong (movedMisread k r)
 
 abbrev movedFound : ℕ → Found → Found
 movedFound k (F.Command c next) = F.Command c (k + next)
-movedFound k (F.Refused r) = F.Refused (movedRefusal k r)
+movedFound k (F.Refused r) = F.Refused (movedMisread k r)
 movedFound k F.End = F.End
 
 -- reading is the same wherever a text stands

@@ -14,7 +14,7 @@ use Rattle.operand.proofs.Runs.{drop-run}
 use Rattle.command.specs.declared.Command.{Command}
 use Rattle.command.specs.declared.Found.{Found}
 use Rattle.command.specs.declared.Found.the-variants as F
-use Rattle.command.specs.declared.Refusal.{Refusal}
+use Rattle.command.specs.declared.refusal.Misread.{Misread}
 use Rattle.command.specs.Command.{foundIn, commandAt}
 use Rattle.command.proofs.Reach.{a-command-reaches-the-next-letter}
 use Rattle.text.specs.Text.{Reading, reads, wrong, thenRead, readFrom}
@@ -45,7 +45,7 @@ module _ (s : List ℕ) (at : ℕ) where
   unfolding readAt readFrom commandAt
   read-here h = rw (drop-step s at h)
 
-  pub read-refused : (r : Refusal) → at < length s → commandAt s at ≡ F.Refused r → readAt s at ≡ wrong r
+  pub read-refused : (r : Misread) → at < length s → commandAt s at ≡ F.Refused r → readAt s at ≡ wrong r
   read-refused r h e = read-here h ∙ rw e
 
   pub read-command : (c : Command) (next : ℕ) → at < length s → commandAt s at ≡ F.Command c next → readAt s at ≡ thenRead at (F.Command c next) (readAt s next)

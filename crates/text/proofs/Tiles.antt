@@ -15,7 +15,7 @@ use Rattle.operand.proofs.Runs.{run-stop, run-end}
 use Rattle.command.specs.declared.Command.{Command}
 use Rattle.command.specs.declared.Found.{Found}
 use Rattle.command.specs.declared.Found.the-variants as F
-use Rattle.command.specs.declared.Refusal.{Refusal}
+use Rattle.command.specs.declared.refusal.Misread.{Misread}
 use Rattle.command.specs.Command.{commandAt}
 use Rattle.command.proofs.Reach.{a-command-reaches-the-next-letter, nothing-only-at-the-end, a-command-in-front}
 use Rattle.text.specs.Text.{Step, Reading, reads, wrong, thenRead, readFrom, readOf}
@@ -129,7 +129,7 @@ module _ (t : List ℕ) where
       tiles-are-read (take k t) (s ∷ steps) (rw (length-take-le k t h) p)
 
 -- the first wrong command: it stands where the longest part ends that reads
-pub record FirstWrong (t : List ℕ) (r : Refusal) : Type 0 where
+pub record FirstWrong (t : List ℕ) (r : Misread) : Type 0 where
   pub steps : List Step
   pub place : ℕ
   pub there : commandAt t place ≡ F.Refused r
@@ -138,7 +138,7 @@ pub record FirstWrong (t : List ℕ) (r : Refusal) : Type 0 where
 
 -- other steps from the same place end no later than at the wrong command
 no-further :
-    (t : List ℕ) (r : Refusal) (place : ℕ) → commandAt t place ≡ F.Refused r → (from : ℕ) (steps others : List Step) (k : ℕ) →
+    (t : List ℕ) (r : Misread) (place : ℕ) → commandAt t place ≡ F.Refused r → (from : ℕ) (steps others : List Step) (k : ℕ) →
     Tiled t from steps place → Tiled t from others k → k ≤ place
 no-further t r place w from steps [] k e o = omega (arith, forward t from steps place e)
 no-further t r place w from [] (s ∷ others) k e o =
@@ -151,7 +151,7 @@ no-further t r place w from (s ∷ steps) (s₁ ∷ others) k e o =
     let n : s₁ .next ≡ s .next = cc in
     no-further t r place w (s .next) steps others k (e .2) (rw n at (o .2))
 
-pub a-refused-text-reads-up-to-its-wrong-command : (t : List ℕ) (r : Refusal) → readOf t ≡ wrong r → FirstWrong t r
+pub a-refused-text-reads-up-to-its-wrong-command : (t : List ℕ) (r : Misread) → readOf t ≡ wrong r → FirstWrong t r
 a-refused-text-reads-up-to-its-wrong-command t r e =
     let (steps, place, tiled, there) = rw e at (walk-all t) in
     record {

@@ -8,7 +8,7 @@ use Rattle.operand.specs.Text.{has}
 use Rattle.command.specs.declared.Command.{Command}
 use Rattle.command.specs.declared.Found.{Found}
 use Rattle.command.specs.declared.Found.the-variants as F
-use Rattle.command.specs.declared.Refusal.{Refusal}
+use Rattle.command.specs.declared.refusal.Misread.{Misread}
 use Rattle.command.specs.Command.{foundIn}
 use Rattle.text.specs.declared.Checked.{Checked}
 use Rattle.text.specs.declared.Checked.the-variants.{Fine, Wrong}
@@ -21,7 +21,7 @@ pub record Step : Type 0 where
 
 pub data Reading : Type 0 where
   reads : List Step → Reading
-  wrong : Refusal → Reading
+  wrong : Misread → Reading
 
 -- what stands at a place, and then what follows it
 abbrev pub thenRead : ℕ → Found → Reading → Reading

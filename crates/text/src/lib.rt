@@ -2,7 +2,7 @@
 pub mod loops;
 
 use command::Found;
-use command::Refusal;
+use command::refusal::Misread;
 use operand::Number;
 ghost use mathlib.Core.Path.{_≡_};
 ghost use lib.ListN.{length};
@@ -13,7 +13,7 @@ ghost use Rattle.text.specs.Data.{Squeezed, KeptByte, askedOf, report, a
 // A text that reads, or its first wrong place.
 pub enum Checked {
     Fine,
-    Wrong(Refusal),
+    Wrong(Misread),
 }
 
 // Q and ? with their number, and f.
@@ -44,7 +44,7 @@ pub enum Data {
     WrongReport,
     Control(Control),
     Text { size: usize, run: bool },
-    Wrong(Refusal),
+    Wrong(Misread),
     TooLong,
 }
 

@@ -1,5 +1,5 @@
 // Reads data from standard input, a line to each, and says what they are once their spaces are dropped: a report, a control, a text and its loops, or why they are refused.
-use command::Refusal;
+use command::refusal::Misread;
 use text::Control;
 use text::Data;
 use text::Question;
@@ -38,13 +38,13 @@ fn control(c: Control) {
     }
 }
 
-fn refused(r: Refusal) {
+fn refused(r: Misread) {
     match r {
-        Refusal::Letter(at) => {
+        Misread::Letter(at) => {
             say(b"refused 2 at ");
             number(at);
         }
-        Refusal::Operand(at) => {
+        Misread::Operand(at) => {
             say(b"refused 3 at ");
             number(at);
         }

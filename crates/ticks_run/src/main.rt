@@ -28,7 +28,8 @@ fn ticks(start: Controller) -> Controller
     let mut c = start;
     let mut k = 0u32;
     while k < 1_000_000 {
-        c = c.tick();
+        let ticked = c.tick();
+        c = ticked.controller;
         k += 1;
     }
     c
@@ -42,7 +43,8 @@ fn runs(start: Controller) -> Controller
     let mut k = 0u32;
     while k < 20 {
         let ran = c.run(50_000);
-        c = ran.controller;
+        let ticked = ran.ticked;
+        c = ticked.controller;
         k += 1;
     }
     c

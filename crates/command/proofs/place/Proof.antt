@@ -6,7 +6,7 @@ use Rattle.command.specs.declared.Command.{Command}
 use Rattle.command.specs.declared.Formed.{Formed}
 use Rattle.command.specs.declared.Formed.the-variants.{Made, NoLetter, WrongOperand}
 use Rattle.command.specs.declared.Found.the-variants as F
-use Rattle.command.specs.declared.Refusal.the-variants.{Letter, Operand}
+use Rattle.command.specs.declared.refusal.Misread.the-variants.{Letter, Operand}
 use Rattle.command.specs.Command.{placed}
 use Rattle.command.proofs.place.Statement.{statement}
 use Rattle.command.proofs.place.Tie as tie

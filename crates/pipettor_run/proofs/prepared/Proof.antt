@@ -1,9 +1,9 @@
 use borrow.Author.Needs.{needs}
 use Rattle.pipettor_run.proofs.prepared.Statement.{statement}
 use Rattle.pipettor_run.proofs.prepared.Tie as tie
-use Rattle.pipettor.proofs.Keeping.{made-kept, advance-kept}
+use Rattle.pipettor.proofs.Keeping.{made-kept}
 
-ruleset laws = (needs, made-kept, advance-kept)
+ruleset laws = (needs, made-kept)
 
 pub prepared-spec : {M : Type 1} → statement M
 prepared-spec =

@@ -7,7 +7,7 @@ use lib.ListN.{length}
 use Rattle.command.specs.declared.Command.{Command}
 use Rattle.command.specs.declared.Found.{Found}
 use Rattle.command.specs.declared.Found.the-variants as F
-use Rattle.command.specs.declared.Refusal.{Refusal}
+use Rattle.command.specs.declared.refusal.Misread.{Misread}
 use Rattle.command.specs.Command.{commandAt}
 use Rattle.command.proofs.Reach.{nothing-only-at-the-end}
 use Rattle.text.specs.declared.Checked.the-variants.{Fine, Wrong}
@@ -33,7 +33,7 @@ module _ (s : List ℕ) (at : ℕ) (l : Left s at) where
   end h = rw (read-end s at h) at (l .same)
 
   module _ (h : at < length s) (f : Found) (e : f ≡ commandAt s at) where
-    refused : (r : Refusal) → f ≡ F.Refused r → Wrong r ≡ checkOf s
+    refused : (r : Misread) → f ≡ F.Refused r → Wrong r ≡ checkOf s
     refused r q = rw (read-refused s at r h (sym e ∙ q)) at (l .same)
 
     ended : f ≡ F.End → Fine ≡ checkOf s

@@ -4,7 +4,7 @@ use mathlib.Core.List.{List}
 use Prim.Native.Nat.{ℕ}
 use borrow.Author.Needs.{needs}
 use lib.ListN.{length}
-use Rattle.command.specs.declared.Refusal.{Refusal}
+use Rattle.command.specs.declared.refusal.Misread.{Misread}
 use Rattle.text.specs.declared.Checked.{Checked}
 use Rattle.text.specs.declared.Checked.the-variants.{Fine, Wrong}
 use Rattle.text.specs.declared.Data.the-variants as D
@@ -17,7 +17,7 @@ module _ (t : List ℕ) (run : Bool) (x : Checked) (e : x ≡ checkOf t) where
   fine : x ≡ Fine → D.Text (length t) run ≡ string t run (checkOf t)
   fine q = rw (← e, q)
 
-  refused : (r : Refusal) → x ≡ Wrong r → D.Wrong r ≡ string t run (checkOf t)
+  refused : (r : Misread) → x ≡ Wrong r → D.Wrong r ≡ string t run (checkOf t)
   refused r q = rw (← e, q)
 
 ruleset laws = (needs, fine, refused)

@@ -1,16 +1,18 @@
 use borrow.Author.Needs.{needs}
-use Rattle.buffer.proofs.Ordering.{state-case}
-use Rattle.buffer.specs.Order.{orderOf}
+use Rattle.buffer.proofs.Ordering.{column-case}
+use Rattle.buffer.specs.Order.{cellOf}
 use Rattle.buffer.proofs.order.store_in.Statement.{statement}
 use Rattle.buffer.proofs.order.store_in.Tie as tie
 
-ruleset laws = (needs, state-case)
+ruleset laws = (needs, column-case)
 
 pub store-in-spec : {M : Type 1} → statement M
-unfolding orderOf
+unfolding cellOf
 store-in-spec =
     tie.close
     (tie.spec
+    (λ c. search laws)
+    (λ c. search laws)
     (λ c. search laws)
     (λ c. search laws)
     (λ c. search laws)

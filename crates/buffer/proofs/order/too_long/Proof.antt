@@ -1,7 +1,7 @@
-use Rattle.buffer.proofs.order.too_long.Statement.{statement}
-use Rattle.buffer.proofs.order.too_long.Tie as tie
 use borrow.Author.Needs.{needs}
 use Rattle.buffer.proofs.Ordering.{stored-long, in-room}
+use Rattle.buffer.proofs.order.too_long.Statement.{statement}
+use Rattle.buffer.proofs.order.too_long.Tie as tie
 
 ruleset laws = (needs, stored-long, in-room)
 

@@ -1,14 +1,14 @@
+use Prim.Native.Nat.{_-_}
+use borrow.Author.Needs.{needs}
+use Rattle.machine.proofs.Leaping.{Running, begins, is-ready, is-over, fits, falls, goes-on}
 use Rattle.machine.proofs.step.run.Statement.{statement}
 use Rattle.machine.proofs.step.run.Tie as tie
-use borrow.Author.Needs.{needs}
-use Prim.Native.Nat.{_-_}
-use Rattle.machine.proofs.Leaping.{Running, begins, is-ready, is-over, fits, falls, goes-on}
 
 abbrev Inv-loop : tie.InvT-loop
-Inv-loop text n c₀ used₀ c used = Running c₀ text n c used
+Inv-loop text n s₀ used₀ s used = Running s₀ text n s used
 
 abbrev μ-loop : tie.MeasureT-loop
-μ-loop text n c₀ used₀ c used = n - used
+μ-loop text n s₀ used₀ s used = n - used
 
 ruleset laws = (needs, begins, is-ready, is-over, fits, falls, goes-on)
 

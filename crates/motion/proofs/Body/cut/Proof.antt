@@ -1,23 +1,22 @@
+use mathlib.Core.Path.{_≡_}
+use mathlib.Core.Bool.{Bool, true, false}
 use borrow.Author.Needs.{needs}
-use Rattle.motion.proofs.Cases.{cut-case}
-use Rattle.motion.specs.Motion.{cutOf}
+use Rattle.motion.specs.declared.Body.{Body}
+use Rattle.motion.specs.declared.Activity.{Activity}
+use Rattle.motion.specs.Motion.{bodyFor, atPlunger, inMotion, cutOf}
 use Rattle.motion.proofs.Body.cut.Statement.{statement}
 use Rattle.motion.proofs.Body.cut.Tie as tie
 
-ruleset laws = (needs, cut-case)
+module _ (a : Activity) (b : Body) (m : Bool) (e : m ≡ inMotion a) where
+  cut : (r : Body) → m ≡ true → r ≡ bodyFor (atPlunger b) b → r ≡ cutOf a b .next
+  unfolding cutOf
+  cut r h q = rw (← e, h) q
+
+  dropped : m ≡ false → b ≡ cutOf a b .next
+  unfolding cutOf
+  dropped h = rw (← e, h)
+
+ruleset laws = (needs, cut, dropped)
 
 pub cut-spec : {M : Type 1} → statement M
-unfolding cutOf
-cut-spec =
-    tie.close
-    (tie.spec
-    (λ c. search laws)
-    (λ c κs. search laws)
-    (λ c. search laws)
-    (λ c κs. search laws)
-    (λ c. search laws)
-    (λ c. search laws)
-    (λ c. search laws)
-    (λ c. search laws)
-    (λ c. search laws)
-    (λ c. search laws))
+cut-spec = tie.close (tie.spec (λ c κs. search laws) (λ c κs. search laws) (λ c. search laws) (λ c. search laws))

@@ -5,25 +5,23 @@ use borrow.Author.Needs.{needs}
 use Rattle.basics.proofs.Rules.{tests}
 use Rattle.motion.specs.declared.Body.{Body}
 use Rattle.motion.specs.declared.Travel.{Travel}
-use Rattle.motion.specs.declared.Activity.the-variants.{Initialising, Between}
+use Rattle.motion.specs.declared.Activity.the-variants.{Initialising}
 use Rattle.motion.specs.declared.Effect.{Effect}
-use Rattle.motion.specs.declared.Effect.the-variants.{Goes}
-use Rattle.motion.specs.Motion.{travel, bodyFor, bodyKnown, moment, homeOf}
+use Rattle.motion.specs.declared.Effect.the-variants.{Goes, Ends}
+use Rattle.motion.specs.Motion.{travel, bodyFor, bodyKnown, homeOf}
 use Rattle.motion.proofs.Body.home.Statement.{statement}
 use Rattle.motion.proofs.Body.home.Tie as tie
 
 module _ (speed : ℕ) (b : Body) (r : Effect) where
-  there : b .plunger ≡ 0 → r ≡ Goes (moment (bodyKnown true (bodyFor 0 b)) Between) → r ≡ homeOf speed b .next
+  there : b .plunger ≡ 0 → r ≡ Ends (bodyKnown true (bodyFor 0 b)) → r ≡ homeOf speed b .next
   unfolding homeOf
   there h e = simp (e, tests)
 
-  away : (t : Travel) → (b .plunger ≡ 0 → ⊥) → t ≡ travel (b .plunger) 0 (speed * 10) → r ≡ Goes (moment (bodyKnown false (bodyFor 0 b)) (Initialising t)) → r ≡ homeOf speed b .next
+  away : (t : Travel) → (b .plunger ≡ 0 → ⊥) → t ≡ travel (b .plunger) 0 (speed * 10) → r ≡ Goes (bodyKnown false (bodyFor 0 b)) (Initialising t) → r ≡ homeOf speed b .next
   unfolding homeOf
   away t h p e = simp (e, p, tests)
 
 ruleset laws = (needs, there, away)
 
 pub home-spec : {M : Type 1} → statement M
-home-spec =
-    tie.close
-    (tie.spec (λ c. search laws) (λ c κs. search laws) (λ c. search laws) (λ c κs. search laws) (λ c κs. search laws) (λ c. search laws))
+home-spec = tie.close (tie.spec (λ c. search laws) (λ c. search laws) (λ c κs. search laws) (λ c. search laws))

@@ -3,7 +3,7 @@ use mathlib.Core.Bool.{true}
 use borrow.Author.Needs.{needs}
 use Rattle.motion.specs.declared.Body.{Body}
 use Rattle.motion.specs.declared.Travel.{Travel}
-use Rattle.motion.specs.declared.Moment.{Moment}
+use Rattle.motion.specs.declared.Effect.{Effect}
 use Rattle.motion.specs.declared.Activity.{Activity}
 use Rattle.motion.specs.declared.Activity.the-variants.{Initialising, Moving}
 use Rattle.motion.specs.Motion.{laterOf, carried, onwardOf}
@@ -19,12 +19,12 @@ module _ (a : Activity) (t : Travel) where
   move-ok : ActivityOk a → a ≡ Moving t → TravelOk t
   move-ok ok e = rw e at ok
 
-  module _ (u : Travel) (l : u ≡ laterOf t) (b : Body) (r : Moment) where
-    home : a ≡ Initialising t → r ≡ carried Initialising true u b → r ≡ onwardOf a b
+  module _ (u : Travel) (l : u ≡ laterOf t) (b : Body) (r : Effect) where
+    home : a ≡ Initialising t → r ≡ carried Initialising true u b → r ≡ onwardOf a b .next
     unfolding onwardOf
     home e h = rw (e, ← l) h
 
-    move : a ≡ Moving t → r ≡ carried Moving (b .initialised) u b → r ≡ onwardOf a b
+    move : a ≡ Moving t → r ≡ carried Moving (b .initialised) u b → r ≡ onwardOf a b .next
     unfolding onwardOf
     move e h = rw (e, ← l) h
 

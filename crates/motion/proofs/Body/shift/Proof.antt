@@ -6,7 +6,9 @@ use borrow.Author.Needs.{needs}
 use borrow.Author.Tests.{not-true, not-false}
 use Rattle.basics.specs.Choice.{if_then_else_}
 use Rattle.settings.specs.declared.Volume.{Volume}
+use Rattle.settings.specs.Limits.{travelMost}
 use Rattle.settings.specs.Units.{millionthsOf}
+use Rattle.command.specs.declared.refusal.Refusal.the-variants as R
 use Rattle.command.specs.declared.Way.{Way}
 use Rattle.motion.specs.declared.Body.{Body}
 use Rattle.motion.specs.declared.Effect.{Effect}
@@ -20,7 +22,7 @@ use Rattle.motion.proofs.Body.shift.Statement.{statement}
 use Rattle.motion.proofs.Body.shift.Tie as tie
 
 module _ (way : Way) (v : Volume) (b : Body) where
-  raw : b .initialised ≡ false → Fails 7 ≡ moveOf way v b .next
+  raw : b .initialised ≡ false → Fails R.NotInitialised b ≡ moveOf way v b .next
   unfolding moveOf
   raw h = rw h
 
@@ -28,10 +30,10 @@ module _ (way : Way) (v : Volume) (b : Body) where
     taken : moveOf way v b ≡ aimed t way v b
     unfolding moveOf
     taken =
-        ap (λ (x : Bool). if x then aimed (targetOf way (millionthsOf v (b .settings .rate)) (b .exact)) way v b else quiet (Fails 7)) i
+        ap (λ (x : Bool). if x then aimed (targetOf way (millionthsOf v (b .settings .rate)) (b .exact)) way v b else quiet (Fails R.NotInitialised b)) i
         ∙ rw (← m, ← e)
 
-    outside : t ≡ Outside → Fails 3 ≡ moveOf way v b .next
+    outside : t ≡ Outside → Fails R.Outside b ≡ moveOf way v b .next
     unfolding aimed
     outside h = rw (taken, h)
 
@@ -39,7 +41,7 @@ module _ (way : Way) (v : Volume) (b : Body) where
     unfolding aimed
     inside exact r h q = rw (taken, h) q
 
-reach : (way : Way) (by from exact : ℕ) (t : Target) → t ≡ targetOf way by from → t ≡ At exact → exact ≤ 44000000000
+reach : (way : Way) (by from exact : ℕ) (t : Target) → t ≡ targetOf way by from → t ≡ At exact → exact ≤ travelMost
 reach way by from exact t e h = target-within way by from exact (sym e ∙ h)
 
 ruleset laws = (needs, not-true, not-false, raw, outside, inside, reach)

@@ -3,5 +3,7 @@ use Rattle.pipettor.proofs.Controllers.{is-advanced}
 use Rattle.pipettor.proofs.Controller.advance.Statement.{statement}
 use Rattle.pipettor.proofs.Controller.advance.Tie as tie
 
+ruleset laws = (needs, is-advanced)
+
 pub advance-spec : {M : Type 1} → statement M
-advance-spec = tie.close (tie.spec (λ c κs. search needs) (λ c κs. search needs) (λ c. search (needs, is-advanced)))
+advance-spec = tie.close (tie.spec (λ c κs. search laws) (λ c κs. search laws) (λ c. search laws))

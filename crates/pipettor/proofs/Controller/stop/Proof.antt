@@ -3,5 +3,7 @@ use Rattle.pipettor.proofs.Controllers.{is-stopped}
 use Rattle.pipettor.proofs.Controller.stop.Statement.{statement}
 use Rattle.pipettor.proofs.Controller.stop.Tie as tie
 
+ruleset laws = (needs, is-stopped)
+
 pub stop-spec : {M : Type 1} → statement M
-stop-spec = tie.close (tie.spec (λ c κs. search needs) (λ c κs. search needs) (λ c. search (needs, is-stopped)))
+stop-spec = tie.close (tie.spec (λ c κs. search laws) (λ c κs. search laws) (λ c. search laws))

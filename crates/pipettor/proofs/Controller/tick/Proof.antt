@@ -3,5 +3,7 @@ use Rattle.pipettor.proofs.Controllers.{is-ticked}
 use Rattle.pipettor.proofs.Controller.tick.Statement.{statement}
 use Rattle.pipettor.proofs.Controller.tick.Tie as tie
 
+ruleset laws = (needs, is-ticked)
+
 pub tick-spec : {M : Type 1} → statement M
-tick-spec = tie.close (tie.spec (λ c κs. search needs) (λ c κs. search needs) (λ c. search (needs, is-ticked)))
+tick-spec = tie.close (tie.spec (λ c κs. search laws) (λ c κs. search laws) (λ c. search laws))

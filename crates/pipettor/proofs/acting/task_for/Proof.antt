@@ -1,10 +1,10 @@
 use borrow.Author.Needs.{needs}
-use Rattle.pipettor.proofs.Tasks.{task-data, task-control, task-text, task-wrong}
+use Rattle.pipettor.proofs.Tasks.{task-data, task-control, task-text}
 use Rattle.pipettor.specs.Byte.{taskOf}
 use Rattle.pipettor.proofs.acting.task_for.Statement.{statement}
 use Rattle.pipettor.proofs.acting.task_for.Tie as tie
 
-ruleset laws = (needs, task-data, task-control, task-text, task-wrong)
+ruleset laws = (needs, task-data, task-control, task-text)
 
 pub task-for-spec : {M : Type 1} → statement M
 unfolding taskOf
@@ -15,12 +15,9 @@ task-for-spec =
     (λ c. search laws)
     (λ c. search laws)
     (λ c κs. search laws)
-    (λ c κs. search laws)
     (λ c. search laws)
     (λ c κs. search laws)
-    (λ c κs. search laws)
     (λ c. search laws)
-    (λ c κs. search laws)
     (λ c. search laws)
     (λ c. search laws)
     (λ c. search laws)

@@ -7,7 +7,7 @@ use lib.ListN.{length}
 use Rattle.command.specs.declared.Command.{Command}
 use Rattle.command.specs.declared.Found.{Found}
 use Rattle.command.specs.declared.Found.the-variants as F
-use Rattle.command.specs.declared.Refusal.{Refusal}
+use Rattle.command.specs.declared.refusal.Misread.{Misread}
 use Rattle.command.specs.Command.{commandAt}
 use Rattle.command.proofs.Reach.{nothing-only-at-the-end}
 use Rattle.text.specs.declared.loops.Level.{Level}
@@ -32,7 +32,7 @@ module _ (s : List ℕ) (first at d : ℕ) (l : Left s first at d) where
   end h = rw (read-end s at h) at (l .same)
 
   module _ (h : at < length s) (f : Found) (e : f ≡ commandAt s at) where
-    refused : (r : Refusal) → f ≡ F.Refused r → Broken ≡ levelRead (readOf s) first
+    refused : (r : Misread) → f ≡ F.Refused r → Broken ≡ levelRead (readOf s) first
     refused r q = rw (read-refused s at r h (sym e ∙ q)) at (l .same)
 
     ended : f ≡ F.End → At d ≡ levelRead (readOf s) first

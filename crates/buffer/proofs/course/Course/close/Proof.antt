@@ -6,11 +6,4 @@ use Rattle.buffer.proofs.course.Course.close.Tie as tie
 ruleset laws = (needs, closing)
 
 pub close-spec : {M : Type 1} → statement M
-close-spec =
-    tie.close
-    (tie.spec
-    (λ c κs. search laws)
-    (λ c. search laws)
-    (λ c κs. search laws)
-    (λ c κs. search laws)
-    (λ c. search laws))
+close-spec = tie.close (tie.spec (λ c. search laws) (λ c κs. search laws) (λ c κs. search laws) (λ c. search laws))

@@ -1,10 +1,9 @@
 use borrow.Author.Needs.{needs}
-use Rattle.machine.proofs.Acting.{length-fits, accepts, refuses}
+use Rattle.machine.proofs.Acting.{part-of-text, judged-fits, acts}
 use Rattle.machine.proofs.step.Core.act.Statement.{statement}
 use Rattle.machine.proofs.step.Core.act.Tie as tie
 
-ruleset laws = (needs, length-fits, accepts, refuses)
+ruleset laws = (needs, part-of-text, judged-fits, acts)
 
 pub act-spec : {M : Type 1} → statement M
-act-spec =
-    tie.close (tie.spec (λ c κs. search laws) (λ c κs. search laws) (λ c. search laws) (λ c κs. search laws) (λ c. search laws))
+act-spec = tie.close (tie.spec (λ c κs. search laws) (λ c κs. search laws) (λ c κs. search laws) (λ c κs. search laws) (λ c. search laws))

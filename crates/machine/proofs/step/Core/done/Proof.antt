@@ -1,13 +1,11 @@
 use borrow.Author.Needs.{needs}
-use Rattle.machine.proofs.Acting.{done-case, begins-text, repeats-text}
-use Rattle.machine.specs.Act.{doneOf}
+use Rattle.machine.proofs.Acting.{done-refusing, done-changing, kept-fits, done-loading}
 use Rattle.machine.proofs.step.Core.done.Statement.{statement}
 use Rattle.machine.proofs.step.Core.done.Tie as tie
 
-ruleset laws = (needs, done-case, begins-text, repeats-text)
+ruleset laws = (needs, done-refusing, done-changing, kept-fits, done-loading)
 
 pub done-spec : {M : Type 1} → statement M
-unfolding doneOf
 done-spec =
     tie.close
     (tie.spec
@@ -18,25 +16,6 @@ done-spec =
     (λ c κs. search laws)
     (λ c. search laws)
     (λ c κs. search laws)
-    (λ c. search laws)
-    (λ c κs. search laws)
-    (λ c. search laws)
-    (λ c κs. search laws)
-    (λ c. search laws)
-    (λ c κs. search laws)
-    (λ c. search laws)
-    (λ c κs. search laws)
-    (λ c. search laws)
-    (λ c κs. search laws)
-    (λ c. search laws)
-    (λ c κs. search laws)
-    (λ c. search laws)
-    (λ c. search laws)
-    (λ c. search laws)
-    (λ c. search laws)
-    (λ c. search laws)
-    (λ c. search laws)
-    (λ c. search laws)
     (λ c. search laws)
     (λ c. search laws)
     (λ c. search laws))

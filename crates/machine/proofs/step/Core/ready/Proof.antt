@@ -1,5 +1,6 @@
 use borrow.Author.Needs.{needs}
 use Rattle.machine.proofs.Stepping.{ready-case}
+use Rattle.machine.specs.Run.{readyIn}
 use Rattle.machine.proofs.step.Core.ready.Statement.{statement}
 use Rattle.machine.proofs.step.Core.ready.Tie as tie
 

@@ -1,8 +1,8 @@
 use borrow.Author.Needs.{needs}
+use Rattle.machine.proofs.Skipping.{running-ok, case}
+use Rattle.machine.specs.Skip.{skippedOf, skippedIn}
 use Rattle.machine.proofs.step.Core.skip.Statement.{statement}
 use Rattle.machine.proofs.step.Core.skip.Tie as tie
-use Rattle.machine.specs.Skip.{skippedOf, skippedIn}
-use Rattle.machine.proofs.Skipping.{running-ok, case}
 
 ruleset laws = (needs, running-ok, case)
 

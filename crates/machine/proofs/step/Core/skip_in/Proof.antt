@@ -1,8 +1,8 @@
 use borrow.Author.Needs.{needs}
+use Rattle.machine.proofs.Skipping.{moving-ok, homing-ok, moving-skips, homing-skips, activity-case}
+use Rattle.machine.specs.Skip.{skippedIn}
 use Rattle.machine.proofs.step.Core.skip_in.Statement.{statement}
 use Rattle.machine.proofs.step.Core.skip_in.Tie as tie
-use Rattle.machine.specs.Skip.{skippedIn}
-use Rattle.machine.proofs.Skipping.{moving-ok, homing-ok, moving-skips, homing-skips, activity-case}
 
 ruleset laws = (needs, moving-ok, homing-ok, moving-skips, homing-skips, activity-case)
 

@@ -12,11 +12,15 @@ step-spec =
     tie.close
     (tie.spec
     (λ c. search laws)
-    (λ c. search laws)
+    (λ c κs. search laws)
     (λ c. search laws)
     (λ c κs. search laws)
     (λ c. search laws)
+    (λ c κs. search laws)
     (λ c. search laws)
+    (λ c κs. search laws)
+    (λ c. search laws)
+    (λ c κs. search laws)
     (λ c. search laws)
     (λ c. search laws)
     (λ c. search laws)

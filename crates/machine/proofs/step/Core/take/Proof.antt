@@ -14,7 +14,6 @@ take-spec =
     (λ c κs. search laws)
     (λ c. search laws)
     (λ c κs. search laws)
-    (λ c κs. search laws)
     (λ c. search laws)
     (λ c κs. search laws)
     (λ c. search laws)

@@ -3,5 +3,7 @@ use Rattle.machine.proofs.Acting.{errs}
 use Rattle.machine.proofs.step.Core.with_error.Statement.{statement}
 use Rattle.machine.proofs.step.Core.with_error.Tie as tie
 
+ruleset laws = (needs, errs)
+
 pub with-error-spec : {M : Type 1} → statement M
-with-error-spec = tie.close (tie.spec (λ c κs. search needs) (λ c κs. search needs) (λ c. search (needs, errs)))
+with-error-spec = tie.close (tie.spec (λ c κs. search laws) (λ c κs. search laws) (λ c. search laws))
