@@ -1,4 +1,5 @@
-// The bench program: lines in, lines out, as soon as each is complete. Only reading and writing stay outside what is proved.
+// The bench program: lines in, lines out, after each read. From a read's answer to the bytes that are to be written all is proved, and that the program starts with address 1 and ends with its input or a failed write.
+// Two calls stay outside: that `read_chunk` hands on the chunk and the answer of `read` from descriptor 0, and that `serve` writes the bytes laid down to descriptor 1. No contract can say what is read or written.
 mod printing;
 
 use basics::Put;
@@ -6,13 +7,13 @@ use desk::Asked;
 use pipettor::Controller;
 use pipettor::address::Address;
 ghost use mathlib.Core.Path.{_≡_};
-ghost use Prim.Native.Nat.{_-_, _≤_};
+ghost use Prim.Native.Nat.{_+_, _-_, _≤_};
 ghost use lib.ListN.{length, take, drop};
 ghost use Rattle.pipettor.specs.Held.{Held};
 ghost use Rattle.pipettor.specs.Controller.{advancedOf};
 ghost use Rattle.console.specs.Serve.{fedOf, endedOf, servedOf, Left};
 ghost use Rattle.console.specs.Print.{questionMark, answerText, placeText, replyOf, Replies};
-ghost use Rattle.console.specs.Eaten.{eatenOf, endedLine, Gathers, Eats, Served};
+ghost use Rattle.console.specs.Eaten.{eatenOf, endedLine, lastOf, brought, ends as Eaten·ends, memory, Gathers, Sound, Eats, Reads, SomeRead, Ended};
 
 // A controller, and how many bytes of a buffer are to be printed.
 pub struct Replied {
@@ -20,17 +21,27 @@ pub struct Replied {
     pub n: usize,
 }
 
-// A controller, and how many bytes are kept of the line that isn't complete yet.
+// A controller, how many bytes are kept of the line that isn't complete yet, and how many of the output are to be written.
 pub struct Eaten {
     pub controller: Controller,
     pub n: usize,
+    pub printed: usize,
 }
 
-// The same after a chunk of the input, and whether the input is over.
+// The same after a read, and whether the input is over.
 pub struct Round {
     pub controller: Controller,
     pub n: usize,
+    pub printed: usize,
     pub over: bool,
+}
+
+// How the program ended: its controller, whether the input was over, whether the last write took all, and how many more reads it would have made.
+pub struct End {
+    pub controller: Controller,
+    pub over: bool,
+    pub wrote: bool,
+    pub turns: u64,
 }
 
 // `/` and the text: no frame ends here, and nothing is answered.
@@ -126,89 +137,161 @@ fn gather(line: &mut [u8], kept: usize, chunk: &[u8], start: usize, end: usize) 
     }
 }
 
-// A line that has ended is answered and its answer written, and nothing of the line is kept.
-fn finish(c: Controller, line: &[u8], n: usize, ended: bool) -> Eaten
-    requires { ⌜ Held c ⌝ }
-    requires { ⌜ length (now line) ≡ 401 ⌝ }
-    requires { ⌜ n ≤ 401 ⌝ }
-    ensures { λ r. ⌜ Eats (endedLine ended) c n (now (line .entry)) (r .controller) (r .n) (now (line .entry)) ⌝ }
+// A line that has ended is answered and nothing of it is kept; its answer is laid behind those before it.
+fn finish(c: Controller, line: &[u8], n: usize, ended: bool, out: &mut [u8], at: usize) -> Eaten
+    requires { ⌜ Sound (memory c n (now line) at (now out)) ⌝ }
+    requires { ⌜ at ≤ 65504 ⌝ }
+    ensures { λ r. ⌜ Eats (endedLine ended) (memory c n (now (line .entry)) at (now (out .entry))) (memory (r .controller) (r .n) (now (line .entry)) (r .printed) (now (out .exit))) ⌝ }
+    ensures { λ r. ⌜ r .printed ≤ at + 32 ⌝ }
 {
     if ended {
-        let mut out = [0u8; 32];
-        let replied = answer(c, &line[..n], &mut out);
+        let mut reply = [0u8; 32];
+        let replied = answer(c, &line[..n], &mut reply);
         let m = replied.n;
-        io::write_all(1, &out[..m]);
+        basics::lay(&reply[..m], out, at);
         let later = replied.controller;
+        let printed = at + m;
         return Eaten {
             controller: later,
             n: 0,
+            printed,
         };
     }
-    Eaten { controller: c, n }
+    Eaten {
+        controller: c,
+        n,
+        printed: at,
+    }
 }
 
-// A chunk of the input, line by line.
-fn eat(start: Controller, line: &mut [u8], kept: usize, chunk: &[u8]) -> Eaten
-    requires { ⌜ Held start ⌝ }
-    requires { ⌜ length (now line) ≡ 401 ⌝ }
-    requires { ⌜ kept ≤ 401 ⌝ }
-    ensures { λ r. ⌜ Eats (eatenOf (now (chunk .entry))) start kept (now (line .entry)) (r .controller) (r .n) (now (line .exit)) ⌝ }
+// A chunk of the input, line by line. A line has a byte at least, its LF, and prints 32 at most.
+fn eat(start: Controller, line: &mut [u8], kept: usize, chunk: &[u8], out: &mut [u8]) -> Eaten
+    requires { ⌜ Sound (memory start kept (now line) 0 (now out)) ⌝ }
+    requires { ⌜ length (now chunk) ≤ 2048 ⌝ }
+    ensures { λ r. ⌜ Eats (eatenOf (now (chunk .entry))) (memory start kept (now (line .entry)) 0 (now (out .entry))) (memory (r .controller) (r .n) (now (line .exit)) (r .printed) (now (out .exit))) ⌝ }
 {
     let mut c = start;
     let mut n = kept;
+    let mut printed = 0;
     let mut from = 0;
     while from < chunk.len() {
         let end = desk::line_end(chunk, from);
         let m = gather(line, n, chunk, from, end);
-        let e = finish(c, line, m, end < chunk.len());
+        let e = finish(c, line, m, end < chunk.len(), out, printed);
         c = e.controller;
         n = e.n;
+        printed = e.printed;
         from = end + 1;
     }
-    Eaten { controller: c, n }
+    Eaten {
+        controller: c,
+        n,
+        printed,
+    }
 }
 
-// The next chunk of the input; none is its end.
-fn read_chunk(c: Controller, line: &mut [u8], kept: usize) -> Round
-    requires { ⌜ Held c ⌝ }
-    requires { ⌜ length (now line) ≡ 401 ⌝ }
-    requires { ⌜ kept ≤ 401 ⌝ }
-    ensures { λ r. ⌜ Served (r .controller) (r .n) (now (line .exit)) ⌝ }
+// "ended by LF or the input's end (nothing after the last LF is no line)"
+fn last_line(c: Controller, line: &[u8], kept: usize, out: &mut [u8]) -> Eaten
+    requires { ⌜ Sound (memory c kept (now line) 0 (now out)) ⌝ }
+    ensures { λ r. ⌜ Eats lastOf (memory c kept (now (line .entry)) 0 (now (out .entry))) (memory (r .controller) (r .n) (now (line .entry)) (r .printed) (now (out .exit))) ⌝ }
 {
-    let mut chunk = [0u8; 4096];
-    let got = libc::read(0, &mut chunk);
-    if got <= 0 {
+    finish(c, line, kept, 0 < kept, out, 0)
+}
+
+// What a read brought; nothing is the input's end.
+fn take_in(c: Controller, line: &mut [u8], kept: usize, bytes: &[u8], out: &mut [u8]) -> Round
+    requires { ⌜ Sound (memory c kept (now line) 0 (now out)) ⌝ }
+    requires { ⌜ length (now bytes) ≤ 2048 ⌝ }
+    ensures { λ r. ⌜ Reads (now (bytes .entry)) (memory c kept (now (line .entry)) 0 (now (out .entry))) (memory (r .controller) (r .n) (now (line .exit)) (r .printed) (now (out .exit))) (r .over) ⌝ }
+{
+    if bytes.len() == 0 {
+        let e = last_line(c, line, kept, out);
+        let controller = e.controller;
         return Round {
-            controller: c,
-            n: kept,
+            controller,
+            n: e.n,
+            printed: e.printed,
             over: true,
         };
     }
-    let m = io::count(got, &chunk);
-    let e = eat(c, line, kept, &chunk[..m]);
-    let later = e.controller;
-    let n = e.n;
+    let e = eat(c, line, kept, bytes, out);
+    let controller = e.controller;
     Round {
-        controller: later,
-        n,
+        controller,
+        n: e.n,
+        printed: e.printed,
         over: false,
     }
 }
 
-// "It reads lines, ended by LF or the input's end (nothing after the last LF is no line), from standard input. .. Address 1."
-pub fn serve() {
+// A read's answer says how many bytes it left at the start of the chunk.
+fn hand_on(
+    c: Controller,
+    line: &mut [u8],
+    kept: usize,
+    chunk: &[u8],
+    got: isize,
+    out: &mut [u8],
+) -> Round
+    requires { ⌜ Sound (memory c kept (now line) 0 (now out)) ⌝ }
+    requires { ⌜ length (now chunk) ≡ 2048 ⌝ }
+    ensures { λ r. ⌜ Reads (brought got (now (chunk .entry))) (memory c kept (now (line .entry)) 0 (now (out .entry))) (memory (r .controller) (r .n) (now (line .exit)) (r .printed) (now (out .exit))) (r .over) ⌝ }
+{
+    let m = io::count(got, chunk);
+    take_in(c, line, kept, &chunk[..m], out)
+}
+
+// The next read.
+fn read_chunk(c: Controller, line: &mut [u8], kept: usize, out: &mut [u8]) -> Round
+    requires { ⌜ Sound (memory c kept (now line) 0 (now out)) ⌝ }
+    ensures { λ r. ⌜ SomeRead (memory c kept (now (line .entry)) 0 (now (out .entry))) (memory (r .controller) (r .n) (now (line .exit)) (r .printed) (now (out .exit))) (r .over) ⌝ }
+{
+    let mut chunk = [0u8; 2048];
+    let got = libc::read(0, &mut chunk);
+    hand_on(c, line, kept, &chunk, got, out)
+}
+
+// The program ends with its input, or where a write fails.
+fn ends(over: bool, wrote: bool) -> bool
+    ensures { λ r. ⌜ r ≡ Eaten·ends over wrote ⌝ }
+{
+    if over {
+        return true;
+    }
+    !wrote
+}
+
+// "It reads lines .. from standard input. .. Address 1."
+pub fn serve() -> End
+    ensures { λ r. ⌜ Ended r ⌝ }
+{
     let mut c = Controller::fresh(Address::One);
     let mut line = [0u8; 401];
+    let mut out = [0u8; 65536];
     let mut n = 0;
     let mut turns = u64::MAX;
     while turns > 0 {
-        let r = read_chunk(c, &mut line, n);
+        let r = read_chunk(c, &mut line, n, &mut out);
         c = r.controller;
         n = r.n;
-        if r.over {
-            finish(c, &line, n, 0 < n);
-            return;
+        let over = r.over;
+        let printed = r.printed;
+        let wrote = io::write_all(1, &out[..printed]);
+        let ending = ends(over, wrote);
+        if ending {
+            return End {
+                controller: c,
+                over,
+                wrote,
+                turns,
+            };
         }
         turns -= 1;
+    }
+    End {
+        controller: c,
+        over: false,
+        wrote: true,
+        turns,
     }
 }

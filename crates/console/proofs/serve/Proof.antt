@@ -1,17 +1,15 @@
+use borrow.Author.Needs.{needs}
 use Rattle.console.proofs.serve.Statement.{statement}
 use Rattle.console.proofs.serve.Tie as tie
-use borrow.Author.Needs.{needs}
-use Rattle.console.specs.Eaten.{Served}
-use Rattle.pipettor.proofs.Keeping.{made-kept}
-use Rattle.console.proofs.Lines.{opens}
+use Rattle.console.proofs.Program.{Served, opens, printed-within, printed-counted, goes-on, ended, no-more-turns}
 
 abbrev Inv-loop : tie.InvT-loop
-Inv-loop c₀ line₀ n₀ turns₀ c line n turns = Served c n line
+Inv-loop c₀ line₀ out₀ n₀ turns₀ c line out n turns = Served c n line out
 
 abbrev μ-loop : tie.MeasureT-loop
-μ-loop c₀ line₀ n₀ turns₀ c line n turns = turns
+μ-loop c₀ line₀ out₀ n₀ turns₀ c line out n turns = turns
 
-ruleset laws = (needs, made-kept, opens)
+ruleset laws = (needs, opens, printed-within, printed-counted, goes-on, ended, no-more-turns)
 
 pub serve-spec : {M : Type 1} → statement M
 serve-spec =
@@ -22,8 +20,11 @@ serve-spec =
     (λ c κs. search laws)
     (λ c. search laws)
     (λ c. search laws)
+    (λ c. search laws)
     (λ c κs. search laws)
     (λ c. search laws)
+    (λ c. search laws)
+    (λ c κs. search laws)
     (λ c κs. search laws)
     (λ c. search laws)
     (λ c. search laws)
