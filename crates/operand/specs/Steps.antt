@@ -12,4 +12,4 @@ pub record Spelt (t : List ℕ) (r : ℕ) : Type 0 where
 -- v, spelt by n digits behind the point, in thousandths
 pub record Scaled (v n r : ℕ) : Type 0 where
   pub value : r ≡ v * 10 ^ (3 - n)
-  pub small : r < 1000
+  pub small : r < 1000000

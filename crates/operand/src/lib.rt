@@ -86,9 +86,9 @@ fn value(t: &[u8]) -> u32
     v
 }
 
-// One to three decimals as thousandths.
+// Decimals as thousandths; how many may be written is not asked here.
 fn scaled(v: u32, n: usize) -> u32
-    requires { ⌜ (v < 10 ^ n) × (n ≤ 3) ⌝ }
+    requires { ⌜ (v < 10 ^ n) × (n ≤ 6) ⌝ }
     ensures { λ r. ⌜ Scaled v n r ⌝ }
 {
     if n == 1 {

@@ -4,6 +4,8 @@ use mathlib.Core.List.{List}
 use Prim.Native.Nat.{ℕ, _+_, _^_, _≤_, _<_}
 use native.Mathlib.Omega.{arith}
 use borrow.Author.Needs.{needs}
+use borrow.Author.Tests.{leb-true}
+use lib.Dec.{leb}
 use lib.ListN.{length}
 use Rattle.basics.specs.Bytes.{digit, every}
 use Rattle.basics.proofs.Rules.{tests}
@@ -26,20 +28,24 @@ module _ (n : ℕ) (t : List ℕ) (e : n ≡ length (run Digit t)) where
     all : every digit t ≡ true
     all = rw (run-whole Digit t (sym e ∙ w)) at (run-digits t)
 
-    none : (whole : ℕ) → n < 1 → Wrong ≡ decimalsOf whole t
+    -- what is refused here is refused by any limits within these
+    none : (whole least : ℕ) → n < least → leb least 1 ≡ true → Wrong ≡ decimalsOf whole t
     unfolding decimalsOf digits
-    none whole h = simp (all, ← w, tests)
+    none whole least h x = let l : n < 1 = omega (arith, leb-true least 1 x) in simp (all, ← w, tests)
 
-    many : (whole : ℕ) → 1 ≤ n → 3 < n → Wrong ≡ decimalsOf whole t
+    many : (whole most : ℕ) → most < n → leb 3 most ≡ true → Wrong ≡ decimalsOf whole t
     unfolding decimalsOf digits
-    many whole l h = simp (all, ← w, tests)
+    many whole most h x =
+        let l : 3 < n = omega (arith, leb-true 3 most x) in
+        let g : 1 ≤ n = omega arith in
+        simp (all, ← w, tests)
 
     fine : (whole v r : ℕ) → 1 ≤ n → n ≤ 3 → Spelt t v → Scaled v n r → Is (whole + r) n ≡ decimalsOf whole t
     unfolding decimalsOf digits
     fine whole v r l h s c = simp (all, ← w, tests, c .value, s .value)
 
-    few : n ≤ 3 → length t ≤ 6
-    few h = omega arith
+    few : (most : ℕ) → n ≤ most → leb most 6 ≡ true → length t ≤ 6
+    few most h x = omega (arith, leb-true most 6 x)
 
     power : (v : ℕ) → Spelt t v → v < 10 ^ n
     power v s = rw w (s .small)
@@ -55,6 +61,6 @@ fraction-spec =
     (λ c. search laws)
     (λ c. search laws)
     (λ c κs. search laws)
-    (λ c κs. search laws)
+    (λ c κs. (search laws, search needs))
     (λ c. search laws)
     (λ c. search laws))

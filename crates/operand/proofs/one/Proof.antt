@@ -5,7 +5,8 @@ use Prim.Native.Nat.{ℕ, _-_, _≤_, _<_}
 use native.Mathlib.Nat.{pow-le-pow-right}
 use native.Mathlib.Omega.{arith}
 use borrow.Author.Needs.{needs}
-use lib.Dec.{lit<}
+use borrow.Author.Tests.{leb-true}
+use lib.Dec.{leb, lit<}
 use lib.ListN.{length, take, drop}
 use Rattle.basics.specs.Bytes.{digit, every}
 use Rattle.basics.proofs.Lists.{empty}
@@ -38,9 +39,13 @@ module _ (n : ℕ) (t : List ℕ) (e : n ≡ length (run Digit t)) where
     unfolding digits
     none h = let l : n < 1 = omega arith in rw (number-some t f) (simp (run-digits t, ← e, tests))
 
-    many : (n ≡ 0 → ⊥) → 6 < n → Wrong ≡ numberOf t
+    -- any limit of 6 or more refuses these
+    many : (most : ℕ) → most < n → leb 6 most ≡ true → Wrong ≡ numberOf t
     unfolding digits
-    many z h = let l : 1 ≤ n = omega arith in rw (number-some t f) (simp (run-digits t, ← e, tests))
+    many most h x =
+        let m : 6 < n = omega (arith, leb-true 6 most x) in
+        let l : 1 ≤ n = omega arith in
+        rw (number-some t f) (simp (run-digits t, ← e, tests))
 
     fine : (v : ℕ) (r : Number) → (n ≡ 0 → ⊥) → n ≤ 6 → Spelt (take n t) v → r ≡ followedOf v (take (length t - n) (drop n t)) → r ≡ numberOf t
     unfolding digits
