@@ -1,6 +1,6 @@
 -- Laws of `specs/Eaten`: that chunks don't matter, the input's end, a read, and the whole program.
 use mathlib.Core.Path.{_≡_, refl, sym, ap, _∙_}
-use mathlib.Core.Bool.{Bool, true, false}
+use mathlib.Core.Bool.{Bool, true, false, _||_}
 use mathlib.Core.List.{List, [], _∷_, _++_, append-nil, append-assoc}
 use Prim.Native.Nat.{ℕ, _≤_}
 use native.Mathlib.Omega.{arith}
@@ -145,7 +145,7 @@ module _ (c k : Controller) (n j p : ℕ) (line out line' out' : List ℕ) (over
   unfolding programOf readOf
   ended wrote turns ending g e = go over refl
     where
-      why : (if ends over wrote then true else eqb turns 0) ≡ true
+      why : (ends over wrote || eqb turns 0) ≡ true
       why = rw (sym g ∙ e)
 
       go : (b : Bool) → over ≡ b → Ended (record { controller = k; over = over; wrote = wrote; turns = turns })

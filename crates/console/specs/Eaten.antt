@@ -1,7 +1,7 @@
 -- 01, "The bench program": "It reads lines, ended by LF or the input's end". What the bytes of the input do and print, how the program keeps them, and what it comes to.
 use Prim.Native.Nat.{ℕ, _≤_, min}
 use mathlib.Core.Path.{_≡_}
-use mathlib.Core.Bool.{Bool, true, not}
+use mathlib.Core.Bool.{Bool, true, not, _||_}
 use mathlib.Core.List.{List, [], _∷_, _++_}
 use lib.Dec.{eqb, ltb}
 use lib.IntN.{ℤ}
@@ -113,10 +113,10 @@ pub record SomeRead (a b : Memory) (over : Bool) : Type 0 where
 
 -- it ends with its input, or where a write has failed
 abbrev pub ends : Bool → Bool → Bool
-ends over wrote = if over then true else not wrote
+ends over wrote = over || not wrote
 
 -- the program has ended; after so many reads it does so too
 pub record Ended (r : End) : Type 0 where
   pub input : List ℕ
   pub controller : r .controller ≡ programOf (r .over) input .controller
-  pub reason : (if ends (r .over) (r .wrote) then true else eqb (r .turns) 0) ≡ true
+  pub reason : (ends (r .over) (r .wrote) || eqb (r .turns) 0) ≡ true
