@@ -2,12 +2,12 @@
 use mathlib.Core.Path.{_≡_, refl, sym, ap, _∙_}
 use mathlib.Core.Bool.{Bool, true, false, _||_}
 use mathlib.Core.List.{List, [], _∷_, _++_, append-nil, append-assoc}
-use Prim.Native.Nat.{ℕ, _≤_}
+use Prim.Native.Nat.{ℕ, _+_, _≤_}
 use native.Mathlib.Omega.{arith}
-use borrow.Author.Tests.{ne-eqb, eq-eqb}
-use lib.Dec.{eqb, ltb}
+use borrow.Author.Tests.{ne-eqb, eqb-false, le-leb}
+use lib.Dec.{eqb, leb, ltb}
 use lib.IntN.{ℤ}
-use lib.ListN.{length, take}
+use lib.ListN.{length, take, length-append}
 use Rattle.io.specs.Counts.{clamped}
 use Rattle.basics.specs.Choice.{if_then_else_}
 use Rattle.basics.proofs.Lists.{front-counted}
@@ -91,16 +91,18 @@ pub whatever-read : (bytes : List ℕ) (a b : Memory) (over : Bool) → Reads by
 whatever-read bytes a b over r = record { bytes = bytes; reads = r }
 
 -- the program before each read: it has eaten some input, and written what that prints
-pub record Served (k : Controller) (n : ℕ) (line out : List ℕ) : Type 0 where
+pub record Served (k : Controller) (n : ℕ) (line out : List ℕ) (reads : ℕ) : Type 0 where
   pub sound : Sound (memory k n line 0 out)
   pub input : List ℕ
+  pub counted : reads ≤ length input
   pub stands : Stands (written (eatenOf input atStart)) (memory k n line 0 out)
 
-pub opens : (k : Controller) (line out : List ℕ) → k ≡ madeOf One .next → length line ≡ 401 → length out ≡ 65536 → Served k 0 line out
+pub opens : (k : Controller) (line out : List ℕ) → k ≡ madeOf One .next → length line ≡ 401 → length out ≡ 65536 → Served k 0 line out 0
 unfolding eatenOf
 opens k line out e w v = record {
   sound = record { held = made-kept One k e; long = w; within = omega arith; size = v; filled = omega arith };
   input = [];
+  counted = omega arith;
   stands = record { controller = e; keeps = record { count = refl; bytes = λ h. refl }; printed = refl };
 }
 
@@ -108,7 +110,7 @@ not-over : (over wrote : Bool) → ends over wrote ≡ false → over ≡ false
 not-over true wrote e = e
 not-over false wrote e = refl
 
-module _ (c k : Controller) (n j p : ℕ) (line out line' out' : List ℕ) (over : Bool) (s : Served c n line out) (x : SomeRead (memory c n line 0 out) (memory k j line' p out') over) where
+module _ (c k : Controller) (n j p : ℕ) (line out line' out' : List ℕ) (over : Bool) (reads : ℕ) (s : Served c n line out reads) (x : SomeRead (memory c n line 0 out) (memory k j line' p out') over) where
   -- the bench program after the read
   now-stands : Stands (readOf (x .bytes) (written (eatenOf (s .input) atStart))) (memory k j line' p out')
   now-stands = x .reads .eats .stands (written (eatenOf (s .input) atStart)) (s .stands)
@@ -126,10 +128,18 @@ module _ (c k : Controller) (n j p : ℕ) (line out line' out' : List ℕ) (over
   more-input : eatenOf (s .input ++ x .bytes) atStart ≡ behind (eatenOf (s .input) atStart .printed) (eatenOf (x .bytes) (written (eatenOf (s .input) atStart)))
   more-input = in-any-chunks (s .input) (x .bytes) atStart ∙ after-writing (x .bytes) (eatenOf (s .input) atStart)
 
-  pub goes-on : (wrote ending : Bool) → ending ≡ ends over wrote → ending ≡ false → Served k j line' out'
-  goes-on wrote ending g e = let u = eaten-more (not-over over wrote (sym g ∙ e)) in record {
+  one-more : over ≡ false → reads + 1 ≤ length (s .input ++ x .bytes)
+  one-more o =
+      let some = eqb-false (length (x .bytes)) 0 (sym (x .reads .last) ∙ o) in
+      let sum = length-append (s .input) (x .bytes) in
+      let h = s .counted in
+      omega arith
+
+  pub goes-on : (wrote ending : Bool) → ending ≡ ends over wrote → ending ≡ false → Served k j line' out' (reads + 1)
+  goes-on wrote ending g e = let o = not-over over wrote (sym g ∙ e) in let u = eaten-more o in record {
     sound = let a = x .reads .eats .sound in record { held = a .held; long = a .long; within = a .within; size = a .size; filled = omega arith };
     input = s .input ++ x .bytes;
+    counted = one-more o;
     stands = rw more-input (record { controller = u .controller; keeps = u .keeps; printed = refl });
   }
 
@@ -141,18 +151,18 @@ module _ (c k : Controller) (n j p : ℕ) (line out line' out' : List ℕ) (over
       go true = refl
       go false = refl
 
-  pub ended : (wrote : Bool) (turns : ℕ) (ending : Bool) → ending ≡ ends over wrote → ending ≡ true → Ended (record { controller = k; over = over; wrote = wrote; turns = turns })
+  pub ended : (wrote ending : Bool) → ending ≡ ends over wrote → ending ≡ true → Ended (record { controller = k; over = over; wrote = wrote; reads = reads })
   unfolding programOf readOf
-  ended wrote turns ending g e = go over refl
+  ended wrote ending g e = go over refl
     where
-      why : (ends over wrote || eqb turns 0) ≡ true
+      why : (ends over wrote || leb 18446744073709551615 reads) ≡ true
       why = rw (sym g ∙ e)
 
-      go : (b : Bool) → over ≡ b → Ended (record { controller = k; over = over; wrote = wrote; turns = turns })
-      go true o = record { input = s .input; controller = rw o ((rw (sym (x .reads .last) ∙ o) at now-stands) .controller ∙ last-controller (eatenOf (s .input) atStart)); reason = why }
-      go false o = record { input = s .input ++ x .bytes; controller = rw (o, more-input) (eaten-more o .controller); reason = why }
+      go : (b : Bool) → over ≡ b → Ended (record { controller = k; over = over; wrote = wrote; reads = reads })
+      go true o = record { input = s .input; controller = rw o ((rw (sym (x .reads .last) ∙ o) at now-stands) .controller ∙ last-controller (eatenOf (s .input) atStart)); reads = s .counted; reason = why }
+      go false o = record { input = s .input ++ x .bytes; controller = rw (o, more-input) (eaten-more o .controller); reads = let h = one-more o in omega arith; reason = why }
 
--- so many reads, and no more
-pub no-more-turns : (k : Controller) (n : ℕ) (line out : List ℕ) (turns : ℕ) → Served k n line out → turns ≤ 0 → Ended (record { controller = k; over = false; wrote = true; turns = turns })
+-- no more reads are made
+pub no-more-reads : (k : Controller) (n : ℕ) (line out : List ℕ) (reads : ℕ) → Served k n line out reads → 18446744073709551615 ≤ reads → Ended (record { controller = k; over = false; wrote = true; reads = reads })
 unfolding programOf
-no-more-turns k n line out turns s h = record { input = s .input; controller = s .stands .controller; reason = eq-eqb turns 0 (omega arith) }
+no-more-reads k n line out reads s h = record { input = s .input; controller = s .stands .controller; reads = s .counted; reason = le-leb 18446744073709551615 reads h }

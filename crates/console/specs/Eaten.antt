@@ -3,7 +3,7 @@ use Prim.Native.Nat.{ℕ, _≤_, min}
 use mathlib.Core.Path.{_≡_}
 use mathlib.Core.Bool.{Bool, true, not, _||_}
 use mathlib.Core.List.{List, [], _∷_, _++_}
-use lib.Dec.{eqb, ltb}
+use lib.Dec.{eqb, leb, ltb}
 use lib.IntN.{ℤ}
 use lib.ListN.{length, take}
 use Rattle.io.specs.Counts.{clamped}
@@ -115,8 +115,9 @@ pub record SomeRead (a b : Memory) (over : Bool) : Type 0 where
 abbrev pub ends : Bool → Bool → Bool
 ends over wrote = over || not wrote
 
--- the program has ended; after so many reads it does so too
+-- the program has ended, for that reason or after 2^64 - 1 reads, each of which brought a byte at least
 pub record Ended (r : End) : Type 0 where
   pub input : List ℕ
   pub controller : r .controller ≡ programOf (r .over) input .controller
-  pub reason : (ends (r .over) (r .wrote) || eqb (r .turns) 0) ≡ true
+  pub reads : r .reads ≤ length input
+  pub reason : (ends (r .over) (r .wrote) || leb 18446744073709551615 (r .reads)) ≡ true

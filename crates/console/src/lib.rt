@@ -1,5 +1,5 @@
 // The bench program: lines in, lines out, after each read. From a read's answer to the bytes that are to be written all is proved, and that the program starts with address 1 and ends with its input or a failed write.
-// Two calls stay outside: that `read_chunk` hands on the chunk and the answer of `read` from descriptor 0, and that `serve` writes the bytes laid down to descriptor 1. No contract can say what is read or written.
+// Two calls stay outside: that `read_chunk` hands on the chunk and the answer of `read` from descriptor 0, and that `serve` writes the bytes laid down to descriptor 1 and goes by the answer. No contract can say what is read or written.
 mod printing;
 
 use basics::Put;
@@ -36,12 +36,12 @@ pub struct Round {
     pub over: bool,
 }
 
-// How the program ended: its controller, whether the input was over, whether the last write took all, and how many more reads it would have made.
+// How the program ended: its controller, whether the input was over, whether the last write took all, and how many reads came before the last.
 pub struct End {
     pub controller: Controller,
     pub over: bool,
     pub wrote: bool,
-    pub turns: u64,
+    pub reads: u64,
 }
 
 // `/` and the text: no frame ends here, and nothing is answered.
@@ -269,8 +269,8 @@ pub fn serve() -> End
     let mut line = [0u8; 401];
     let mut out = [0u8; 65536];
     let mut n = 0;
-    let mut turns = u64::MAX;
-    while turns > 0 {
+    let mut reads: u64 = 0;
+    while reads < u64::MAX {
         let r = read_chunk(c, &mut line, n, &mut out);
         c = r.controller;
         n = r.n;
@@ -283,15 +283,15 @@ pub fn serve() -> End
                 controller: c,
                 over,
                 wrote,
-                turns,
+                reads,
             };
         }
-        turns -= 1;
+        reads += 1;
     }
     End {
         controller: c,
         over: false,
         wrote: true,
-        turns,
+        reads,
     }
 }

@@ -1,15 +1,16 @@
 use borrow.Author.Needs.{needs}
+use Prim.Native.Nat.{_-_}
 use Rattle.console.proofs.serve.Statement.{statement}
 use Rattle.console.proofs.serve.Tie as tie
-use Rattle.console.proofs.Program.{Served, opens, printed-within, printed-counted, goes-on, ended, no-more-turns}
+use Rattle.console.proofs.Program.{Served, opens, printed-within, printed-counted, goes-on, ended, no-more-reads}
 
 abbrev Inv-loop : tie.InvT-loop
-Inv-loop c₀ line₀ out₀ n₀ turns₀ c line out n turns = Served c n line out
+Inv-loop c₀ line₀ out₀ n₀ reads₀ c line out n reads = Served c n line out reads
 
 abbrev μ-loop : tie.MeasureT-loop
-μ-loop c₀ line₀ out₀ n₀ turns₀ c line out n turns = turns
+μ-loop c₀ line₀ out₀ n₀ reads₀ c line out n reads = 18446744073709551615 - reads
 
-ruleset laws = (needs, opens, printed-within, printed-counted, goes-on, ended, no-more-turns)
+ruleset laws = (needs, opens, printed-within, printed-counted, goes-on, ended, no-more-reads)
 
 pub serve-spec : {M : Type 1} → statement M
 serve-spec =
