@@ -16,11 +16,12 @@ use Rattle.line.proofs.Answers.{answer-fits}
 use Rattle.motion.specs.Events.{Turn}
 use Rattle.machine.specs.Step.{around, fine}
 use Rattle.machine.specs.Run.{usedOf}
-use Rattle.machine.specs.Device.{tickOf, advanceOf, ranOf}
+use Rattle.machine.specs.Device.{tickOf, haltedOf, advanceOf, ranOf}
 use Rattle.machine.specs.History.{IsSum}
 use Rattle.machine.proofs.Runs.{count-within, not-ready-before, ready-after}
 use Rattle.machine.proofs.Position.{at-rest}
-use Rattle.machine.proofs.Failures.{a-run-meets-a-command, a-run-fails-by-7-or-3-only}
+use Rattle.machine.proofs.Failures.{a-run-meets-a-command, a-run-fails-by-7-or-3-only, a-command-that-must-fail-fails}
+use Rattle.machine.proofs.Homing.{a-cut-W-leaves-the-plunger-uninitialised}
 use Rattle.pipettor.specs.declared.address.Address.{Address}
 use Rattle.pipettor.specs.declared.address.Address.the-variants.{One, Two, Three, Four, Five, Six, Seven, Eight, Nine}
 use Rattle.pipettor.specs.declared.address.Given.the-variants.{Is}
@@ -29,7 +30,7 @@ use Rattle.pipettor.specs.declared.acting.Outcome.the-variants.{Mute, Tell}
 use Rattle.pipettor.specs.declared.Controller.{Controller}
 use Rattle.pipettor.specs.Address.{letterOf, addressOf}
 use Rattle.pipettor.specs.Byte.{After, saidOf, writtenOf, dealtOf, heardOf, byteOf}
-use Rattle.pipettor.specs.Controller.{tickedOf, advancedOf, runOf}
+use Rattle.pipettor.specs.Controller.{tickedOf, stoppedOf, advancedOf, runOf}
 use Rattle.frames.proofs.Calls.{a-short-buffer-is-s1, s1-changes-nothing, an-address-outside-1-to-9-is-s2}
 use Rattle.demands.specs.Calls.{Call, after}
 use Rattle.demands.specs.Demands.{Counted, Written, Answers, Makes, TotalityAndRefusals, Position, Moves}
@@ -71,7 +72,7 @@ module _ (k : Controller) (n : ℕ) where
       }
 
 every-controller-answers : (a : Address) (calls : List Call) → Answers (after a calls)
-unfolding runOf ranOf tickedOf tickOf
+unfolding runOf ranOf tickedOf tickOf stoppedOf haltedOf
 every-controller-answers a calls =
     let k = after a calls in
     let sound = every-controller-is-sound a calls in
@@ -85,6 +86,8 @@ every-controller-answers a calls =
       a-run-counts-its-ticks = λ n h. (usedOf n (around (k .device .text)) (fine (k .device .core)), a-run-is-counted k n h);
       a-run-meets-a-command = λ is. a-run-meets-a-command (k .device .text) (k .device .core .course) is (sound .on-course);
       a-run-fails-by-7-or-3 = λ doing is empty. a-run-fails-by-7-or-3-only (k .device .text) (k .device .core) doing is (sound .on-course) empty;
+      a-command-that-must-fail-fails = λ command next why is found must. rw (a-command-that-must-fail-fails (k .device .text) (k .device .core) command next why is found must);
+      a-cut-W-leaves-it-uninitialised = λ t is. a-cut-W-leaves-the-plunger-uninitialised t (k .device .core) is (sound .homes);
     }
 
 address : (a : Address) → addressOf (letterOf a - 48) ≡ Is a

@@ -55,6 +55,22 @@ examples =
     ∷ ("M15R" answers "@" ∷ 2 ticks 0 exact 0 ∷ "Q" answers "@" ∷ 1 ticks 0 exact 0 ∷ "Q" answers "`" ∷ [])
     -- the whole case of the bench program
     ∷ ("WR" answers "@" ∷ 1 ticks 0 exact 0 ∷ "P0.01,1P0.01,1R" answers "@" ∷ 4 ticks 1 exact 800000 ∷ "?0" answers "`1" ∷ [])
+    -- "Q the last error .. f the address": every report after every setting is changed; X; a cut W and then P; !R, and every setting again
+    ∷ ("Wv300c400L5,6K7b350A1000R" answers "@" ∷ 25 ticks 1000 exact 1000000000 ∷ "?1" answers "`1000" ∷ "?3" answers "`24.783" ∷ "?4" answers "`7" ∷ "?6" answers "`300.0" ∷ "?7" answers "`8000.0" ∷ "?8" answers "`400.0" ∷ "?9" answers "`5" ∷ "?10" answers "`6" ∷ "?16" answers "`44000" ∷ "?17" answers "`1100" ∷ "?18" answers "`7.500" ∷ "?19" answers "`200.000" ∷ "?20" answers "`10.000" ∷ "?29" answers "`0" ∷ "?67" answers "`0" ∷ "?2" answers "c" ∷ "Q2" answers "c" ∷ "Q1" answers "`@" ∷ "f" answers "`1" ∷ "f1" answers "c" ∷ "!X" answers "b" ∷ "X" answers "@" ∷ 3 ticks 880 exact 0 ∷ "?0" answers "@0" ∷ "?1" answers "@880" ∷ "?29" answers "@1" ∷ "?67" answers "@1" ∷ "T" answers "`" ∷ "?67" answers "`1" ∷ "P1R" answers "@" ∷ 1 ticks 880 exact 880000000 ∷ "Q1" answers "gG" ∷ "?67" answers "g0" ∷ "!R" answers "`" ∷ "?4" answers "`0" ∷ "?6" answers "`1000.0" ∷ "?8" answers "`8000.0" ∷ "?10" answers "`20" ∷ "A1R" answers "@" ∷ 1 ticks 880 exact 880000000 ∷ "Q" answers "g" ∷ [])
+    -- "X: from Done, runs the text again": the fraction of the first run is kept
+    ∷ ("WR" answers "@" ∷ 1 ticks 0 exact 0 ∷ "P0.01,1R" answers "@" ∷ 1 ticks 0 exact 400000 ∷ "X" answers "@" ∷ 2 ticks 1 exact 800000 ∷ [])
+    -- the goal in a delay is the plunger
+    ∷ ("WA5M100R" answers "@" ∷ 4 ticks 5 exact 5000000 ∷ "?0" answers "@5" ∷ [])
+    -- passes of loops one in another, and of a loop that is entered anew
+    ∷ ("WggP1G2G3R" answers "@" ∷ 60 ticks 6 exact 6000000 ∷ [])
+    -- a refusal's code stays over the ticks
+    ∷ ("M100R" answers "@" ∷ "C" answers "O" ∷ 11 ticks 0 exact 0 ∷ "Q" answers "o" ∷ [])
+    -- "or Empty if none is left": T in the last command
+    ∷ ("WA500R" answers "@" ∷ 3 ticks 80 exact 500000000 ∷ "T" answers "`" ∷ "?67" answers "`0" ∷ "X" answers "n" ∷ [])
+    -- strings without R, T, C and R
+    ∷ ("A5" answers "`" ∷ "T" answers "`" ∷ "?67" answers "`1" ∷ "C" answers "`" ∷ "?67" answers "`0" ∷ "R" answers "n" ∷ "WA5" answers "`" ∷ "R" answers "@" ∷ 3 ticks 5 exact 5000000 ∷ [])
+    -- 02, W-213: "3 in the loop check"; what was stored stays
+    ∷ ("WA5" answers "`" ∷ "G3R" answers "c" ∷ "?67" answers "c1" ∷ "R" answers "@" ∷ 3 ticks 5 exact 5000000 ∷ [])
     ∷ []
 
 -- 01, "Errors a class makes, and so may a program"
@@ -83,8 +99,11 @@ impostors =
     ∷ ("WA5A10R" answers "@" ∷ 3 ticks 5 exact 5000000 ∷ 100 run-uses 2 ∷ 1 ticks 10 exact 10000000 ∷ 100 run-uses 0 ∷ [])
     ∷ []
 
+-- W, b, A, P, D, T in a delay, a movement that is cut, and a reset
 abbrev moved : List Call
-moved = callsOf ("WP0.01,1P0.01,1R" answers "@") ++ advance 4 ∷ []
+moved =
+    callsOf ("Wb350A10P0.5,1D0.2,1M1000R" answers "@") ++ advance 20 ∷ callsOf ("T" answers "`") ++
+    callsOf ("A44000R" answers "@") ++ advance 3 ∷ callsOf ("T" answers "`") ++ callsOf ("!R" answers "`")
 
 pub record Computed : Type 0 where
   pub the-examples-hold : wrongOf definition examples ≡ []

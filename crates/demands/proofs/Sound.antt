@@ -1,6 +1,6 @@
--- What every controller keeps that comes from making and any calls: the premise of every call, the sum of its history, and its course.
-use mathlib.Core.Path.{_≡_, refl}
-use mathlib.Core.List.{List, [], _∷_, _++_}
+-- What every controller keeps that comes from making and any calls: the premise of every call, the sum of its history, its course, and what W has cleared.
+use mathlib.Core.Path.{refl}
+use mathlib.Core.List.{List, [], _∷_}
 use Prim.Native.Nat.{ℕ, zero, suc}
 use native.Mathlib.Omega.{arith}
 use lib.Dec.{ltb}
@@ -19,6 +19,7 @@ use Rattle.machine.specs.History.{Sum, sum, addedUp, sumOf, IsSum}
 use Rattle.machine.specs.OnCourse.{OnCourse}
 use Rattle.machine.proofs.Keeps.{step-keeps}
 use Rattle.machine.proofs.Position.{CoreTold, step-tells, act-tells, stop-tells}
+use Rattle.machine.proofs.Homing.{Homes, a-call-keeps-homing}
 use Rattle.machine.proofs.OnCourse.{a-call-keeps-on-course, the-fresh-device-is-on-course}
 use Rattle.pipettor.specs.declared.address.Address.{Address}
 use Rattle.pipettor.specs.declared.Controller.{Controller}
@@ -66,6 +67,18 @@ does-keep-on-course d t (new-error why) r o = o
 does-keep-on-course d t (call k sent) r o = a-call-keeps-on-course k d r sent o
 does-keep-on-course d t (ticks n) r o = rw (to-advance-is-to-call-ticks n d) at (ticks-keep-on-course n d r o)
 
+-- while W is in progress the plunger is not initialised
+ticks-keep-homing : (n : ℕ) (d : Device) → Homes (d .core) → Homes (Machine.afterOf (replicate n Machine.tick) d .core)
+unfolding Machine.afterOf
+ticks-keep-homing zero d h = h
+ticks-keep-homing (suc n) d h = ticks-keep-homing n (Machine.callOf Machine.tick d .next) (a-call-keeps-homing Machine.tick d h)
+
+does-keep-homing : (d : Device) (t : Turn Device) → Does d t → Homes (d .core) → Homes (t .next .core)
+does-keep-homing d t none h = h
+does-keep-homing d t (new-error why) h = h
+does-keep-homing d t (call k sent) h = a-call-keeps-homing k d h
+does-keep-homing d t (ticks n) h = rw (to-advance-is-to-call-ticks n d) at (ticks-keep-homing n d h)
+
 -- the premise of every call, and the lengths of the arrays
 pub call-keeps-valid : (c : Call) (k : Controller) → Sized k → Valid k → Valid (callOf c k .next)
 unfolding callOf
@@ -98,11 +111,12 @@ pub record Sound (k : Controller) (s : Sum) : Type 0 where
   pub sized : Sized k
   pub told : CoreTold (k .device .core) s
   pub on-course : OnCourse (k .device)
+  pub homes : Homes (k .device .core)
 
 made-is-sound : (a : Address) → Sound (madeOf a .next) (sumOf (madeOf a .events))
 unfolding madeOf freshOf freshBody sumOf addedUp IsSum
 made-is-sound a =
-    record { valid = made-is-valid a; sized = made-is-sized a; told = record { sum = refl; near = omega arith }; on-course = the-fresh-device-is-on-course }
+    record { valid = made-is-valid a; sized = made-is-sized a; told = record { sum = refl; near = omega arith }; on-course = the-fresh-device-is-on-course; homes = tt }
 
 call-keeps-sound : (c : Call) (k : Controller) (s : Sum) → Sound k s → Sound (callOf c k .next) (addedUp s (callOf c k .events))
 call-keeps-sound c k s h =
@@ -112,6 +126,7 @@ call-keeps-sound c k s h =
       sized = call-keeps-sized c k (h .sized) (h .valid);
       told = does-tell (k .device) s _ does (h .told);
       on-course = does-keep-on-course (k .device) _ does (record { valid = h .valid .core; long = h .sized .text }) (h .on-course);
+      homes = does-keep-homing (k .device) _ does (h .homes);
     }
 
 calls-keep-sound : (cs : List Call) (k : Controller) (s : Sum) → Sound k s → Sound (afterOf cs k) (addedUp s (eventsOf cs k))

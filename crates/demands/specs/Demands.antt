@@ -4,20 +4,30 @@ use mathlib.Core.Path.{_≡_}
 use mathlib.Core.Logic.{_⊎_}
 use mathlib.Core.Bool.{true, false}
 use mathlib.Core.List.{List, [], _∷_, _++_}
-use lib.ListN.{length, drop}
+use lib.ListN.{length, take, drop}
 use Rattle.basics.specs.Bytes.{every}
 use Rattle.settings.specs.declared.Volume.{Volume}
-use Rattle.command.specs.declared.refusal.Verdict.the-variants.{Fine}
+use Rattle.command.specs.declared.refusal.Refusal.{Refusal}
+use Rattle.command.specs.declared.refusal.Verdict.the-variants.{Fine, Refused}
+use Rattle.command.specs.declared.Command.{Command}
+use Rattle.command.specs.declared.Found.{Found}
+use Rattle.command.specs.declared.Found.the-variants as F
+use Rattle.command.specs.Command.{commandAt}
 use Rattle.line.specs.Wire.{dataByte}
 use Rattle.motion.specs.declared.Activity.{Activity}
-use Rattle.motion.specs.declared.Activity.the-variants.{Between}
+use Rattle.motion.specs.declared.Activity.the-variants.{Initialising, Between}
+use Rattle.motion.specs.declared.Travel.{Travel}
 use Rattle.motion.specs.Events.{quiet, start, volume}
 use Rattle.buffer.specs.declared.course.State.the-variants.{Empty, Running}
+use Rattle.buffer.specs.Course.{failedOf}
+use Rattle.machine.specs.declared.Device.{Device}
 use Rattle.machine.specs.declared.Used.the-variants.{Ticks, S3}
+use Rattle.machine.specs.Step.{core}
+use Rattle.machine.specs.Device.{device}
 use Rattle.machine.specs.Refusals.{Exactly}
 use Rattle.machine.specs.History.{sumOf, IsSum, StandsBy, moving}
 use Rattle.machine.specs.OnCourse as OnCourse
-use Rattle.machine.specs.OnCourse.{Fault}
+use Rattle.machine.specs.OnCourse.{Failing, Fault}
 use Rattle.pipettor.specs.declared.address.Address.{Address}
 use Rattle.pipettor.specs.declared.address.Address.the-variants.{One}
 use Rattle.pipettor.specs.declared.address.Given.the-variants.{Is, S2}
@@ -28,7 +38,7 @@ use Rattle.pipettor.specs.Address.{letterOf, addressOf}
 use Rattle.pipettor.specs.Valid.{Valid}
 use Rattle.pipettor.specs.Byte as Byte
 use Rattle.pipettor.specs.Byte.{byteOf}
-use Rattle.pipettor.specs.Controller.{tickedOf, advancedOf, runOf, readyIs}
+use Rattle.pipettor.specs.Controller.{on, tickedOf, stoppedOf, advancedOf, runOf, readyIs}
 use Rattle.demands.specs.Calls.{Call, after, history, answers}
 use Rattle.demands.specs.Frames.{frameSeen, Treated, Hears, frameAfter, ExchangesFrame}
 use Rattle.demands.specs.Contracts.{Program, Meets, TakesAll, leftBy, answeredBy}
@@ -46,6 +56,10 @@ abbrev pub Written : Said → List ℕ → List ℕ → Type 0
 Written Silent before after = after ≡ before
 Written S1 before after = after ≡ before
 Written (Answer n) before after = (n ≤ 20) × (length after ≡ length before) × (drop n after ≡ drop n before)
+
+-- what stands at the place that a run has reached
+abbrev pub nextCommand : Device → Found
+nextCommand d = commandAt (take (d .core .course .len) (d .text)) (d .core .course .at)
 
 -- of a controller:
 pub record Answers (k : Controller) : Type 0 where
@@ -68,6 +82,13 @@ pub record Answers (k : Controller) : Type 0 where
   pub a-run-fails-by-7-or-3 :
       (doing : Activity) → k .device .core .course .state ≡ Running doing → tickedOf k .next .controller .device .core .course .state ≡ Empty →
       Fault (k .device .text) (k .device .core)
+  -- and where the next command must fail, the tick that takes it fails, with that refusal
+  pub a-command-that-must-fail-fails :
+      (command : Command) (next : ℕ) (why : Refusal) → k .device .core .course .state ≡ Running Between → nextCommand (k .device) ≡ F.Command command next →
+      Failing command (k .device .core .body) why →
+      tickedOf k .next ≡ record { controller = on (device (k .device .text) (core (k .device .core .body) (failedOf why (k .device .core .course)))) k; failed = Refused why }
+  -- "a cut W leaves us uninitialised"
+  pub a-cut-W-leaves-it-uninitialised : (t : Travel) → k .device .core .course .state ≡ Running (Initialising t) → stoppedOf k .next .device .core .body .initialised ≡ false
 
 -- making: "Our address is one of `1` to `9`"; "S2: address outside 1 to 9 at making: no controller is made"
 pub record Makes : Type 0 where
@@ -109,8 +130,11 @@ pub record Stands (a : Address) (calls : List Call) : Type 0 where
 abbrev pub Position : Type 0
 Position = (a : Address) (calls : List Call) → Stands a calls
 
--- and it isn't said of a plunger that never leaves 0: calls that move it, and the history they make
+-- and it isn't said of a plunger that never leaves 0: calls that move it, and the history they make: making and W at 0, A at the place asked for,
+-- P and D at the compensation of b, nothing for T in a delay, A again, and the plunger's place for a movement that is cut and for a reset
 pub record Moves : Type 0 where
   pub calls : List Call
   pub plunger : 0 < after One calls .device .core .body .plunger
-  pub events : history One calls ≡ start 0 ∷ start 0 ∷ volume (nL 10) 40000 true ∷ volume (nL 10) 40000 true ∷ []
+  pub events :
+      history One calls ≡
+      start 0 ∷ start 0 ∷ start 10000000 ∷ volume (nL 500) 40350 true ∷ volume (nL 200) 40350 false ∷ start 44000000000 ∷ start 182000000 ∷ start 182000000 ∷ []

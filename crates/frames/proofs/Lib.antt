@@ -6,3 +6,4 @@ pub mod Sorts
 pub mod Counts
 pub mod Texts
 pub mod Listening
+pub mod Controls

@@ -2,7 +2,7 @@
 use mathlib.Core.Path.{_≡_, refl, sym, ap, subst, _∙_}
 use mathlib.Core.Bool.{Bool, true, false}
 use mathlib.Core.List.{List}
-use Prim.Native.Nat.{ℕ, _+_, _<_}
+use Prim.Native.Nat.{ℕ, _<_}
 use native.Mathlib.Omega.{arith}
 use borrow.Author.Tests.{lt-ltb, ne-eqb}
 use lib.Dec.{ltb, leb, eqb}
@@ -45,7 +45,7 @@ use Rattle.text.proofs.Inside.{the-commands-before-a-place-read}
 use Rattle.machine.specs.History.{Call, after}
 use Rattle.machine.proofs.Looping.{closed-by}
 use Rattle.machine.proofs.OnWay.{ahead-of, way-room, way-ends, way-deep, way-start}
-use Rattle.machine.specs.OnCourse.{Meets, HasItsG, Failing, uninitialised, outside, Fault, OnWay, Ahead, CourseOn, AllSent}
+use Rattle.machine.specs.OnCourse.{Meets, Failing, uninitialised, outside, Fault, OnWay, Ahead, CourseOn, AllSent}
 use Rattle.machine.proofs.OnCourse.{Fits, effect-fits, onward-fits, every-device-is-on-course}
 
 -- what on course means: the text reads, its loops are right, and the commands before the run's place leave as many open as the run holds
@@ -212,6 +212,17 @@ module _ (text : List ℕ) (c : Core) where
   pub a-run-fails-by-7-or-3-only : (a : Activity) → c .course .state ≡ Running a → CourseOn text (c .course) → stepOf (around text) c .next .core .course .state ≡ Empty → Fault text c
   unfolding stepOf activeOf
   a-run-fails-by-7-or-3-only a s o h = running-fails a s o (subst (λ (x : State). activeOf x (around text) c .next .core .course .state ≡ Empty) s h)
+
+-- and the other way: a command that must fail fails, with that refusal, in the tick that takes it
+must-fail : (k : Command) (b : Body) (why : Refusal) → Failing k b why → effectOf k b .next ≡ Fails why b
+unfolding effectOf moveOf aimed
+must-fail k b why (uninitialised way v e i) = rw (e, i)
+must-fail k b why (outside way v e i out) = rw (e, i, out)
+
+pub a-command-that-must-fail-fails :
+    (text : List ℕ) (c : Core) (k : Command) (next : ℕ) (why : Refusal) → c .course .state ≡ Running Between →
+    commandAt (take (c .course .len) text) (c .course .at) ≡ F.Command k next → Failing k (c .body) why → stepOf (around text) c .next ≡ fails why (c .body) (c .course)
+a-command-that-must-fail-fails text c k next why s found w = step-fails text c k next why s found (must-fail k (c .body) why w)
 
 -- so for every device that comes from calls
 module _ (calls : List Call) (sent : AllSent calls) where

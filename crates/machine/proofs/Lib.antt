@@ -19,3 +19,5 @@ pub mod Failures
 pub mod Resuming
 pub mod Examples
 pub mod Runnings
+pub mod Bodies
+pub mod Homing
