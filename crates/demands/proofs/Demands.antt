@@ -36,6 +36,7 @@ use Rattle.demands.specs.Calls.{Call, after}
 use Rattle.demands.specs.Demands.{Counted, Written, Answers, Makes, TotalityAndRefusals, Position, Moves}
 use Rattle.demands.proofs.Examples.{computed}
 use Rattle.demands.proofs.Frames.{a-frame-is-treated-by-the-table}
+use Rattle.demands.proofs.InHand.{every-controller-receives}
 use Rattle.demands.proofs.Sound.{every-controller-is-sound}
 
 -- 1
@@ -106,7 +107,7 @@ making-refuses : Makes
 making-refuses = record { one-to-nine = address; any-other-is-S2 = an-address-outside-1-to-9-is-s2 }
 
 pub every-call-is-answered : TotalityAndRefusals
-every-call-is-answered = record { making = making-refuses; calling = every-controller-answers }
+every-call-is-answered = record { making = making-refuses; calling = every-controller-answers; receiving = every-controller-receives }
 
 -- 3
 pub the-plunger-stands-where-its-history-says : Position

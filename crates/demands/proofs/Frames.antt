@@ -6,6 +6,8 @@ use Prim.Native.Nat.{ℕ, _+_, _≤_}
 use lib.ListN.{length, replicate}
 use Rattle.basics.specs.Bytes.{every}
 use Rattle.line.specs.Wire.{dataByte}
+use Rattle.machine.specs.declared.Device.{Device}
+use Rattle.pipettor.specs.declared.address.Address.{Address}
 use Rattle.pipettor.specs.declared.Controller.{Controller}
 use Rattle.pipettor.specs.declared.Said.{Said}
 use Rattle.pipettor.specs.declared.Said.the-variants.{Silent}
@@ -21,6 +23,23 @@ last-said : (s t : Said) (l : List Said) → last s (l ++ (t ∷ [])) ≡ t
 last-said s t [] = refl
 last-said s t (u ∷ l) = last-said u t l
 
+pub an-exchange-is-treated-by-the-table : (ds : List ℕ) (a : Address) (d : Device) (buf : List ℕ) → Treated ds a d buf (exchangeOf ds a d buf)
+an-exchange-is-treated-by-the-table ds a d buf =
+    record {
+      number = record {
+        a-wrong-letter-is-2 = Refusals.a-wrong-letter-is-2 ds a d;
+        a-wrong-number-is-3 = Refusals.a-wrong-number-is-3 ds a d;
+        nothing-to-run-is-14 = Refusals.nothing-to-run-now-is-14 ds a d;
+        too-much-is-15 = Refusals.too-much-now-is-15 ds a d;
+        never-7-at-load = Refusals.never-7-at-load ds a d;
+        no-other-number = Refusals.no-other-number ds a d;
+      };
+      answered = Refusals.every-frame-is-answered ds a d buf;
+      a-refused-frame-leaves-the-error-only = Refusals.a-refused-frame-leaves-the-error-only ds a d buf;
+      an-accepted-frame-clears-the-error = Refusals.an-accepted-frame-clears-the-error ds a d buf;
+      a-report-leaves-everything = Refusals.reports-leave-everything ds a d buf;
+    }
+
 module _ (k : Controller) (sized : length (k .frame) ≡ 320) (buf : List ℕ) (long : 32 ≤ length buf) where
   pub a-frame-is-seen-as-an-exchange : (ds : List ℕ) → every dataByte ds ≡ true → frameSeen k ds buf ≡ exchangeOf ds (k .address) (k .device) buf
   a-frame-is-seen-as-an-exchange ds good =
@@ -29,24 +48,7 @@ module _ (k : Controller) (sized : length (k .frame) ≡ 320) (buf : List ℕ) (
       rw (x .said, x .buffer, x .device, x .events, last-said Silent (e .next .said) (replicate (length ds + 2) Silent))
 
   pub a-frame-is-treated-by-the-table : (ds : List ℕ) → every dataByte ds ≡ true → Treated ds (k .address) (k .device) buf (frameSeen k ds buf)
-  a-frame-is-treated-by-the-table ds good =
-      let a = k .address in
-      let d = k .device in
-      rw (a-frame-is-seen-as-an-exchange ds good)
-      (record {
-        number = record {
-          a-wrong-letter-is-2 = Refusals.a-wrong-letter-is-2 ds a d;
-          a-wrong-number-is-3 = Refusals.a-wrong-number-is-3 ds a d;
-          nothing-to-run-is-14 = Refusals.nothing-to-run-now-is-14 ds a d;
-          too-much-is-15 = Refusals.too-much-now-is-15 ds a d;
-          never-7-at-load = Refusals.never-7-at-load ds a d;
-          no-other-number = Refusals.no-other-number ds a d;
-        };
-        answered = Refusals.every-frame-is-answered ds a d buf;
-        a-refused-frame-leaves-the-error-only = Refusals.a-refused-frame-leaves-the-error-only ds a d buf;
-        an-accepted-frame-clears-the-error = Refusals.an-accepted-frame-clears-the-error ds a d buf;
-        a-report-leaves-everything = Refusals.reports-leave-everything ds a d buf;
-      })
+  a-frame-is-treated-by-the-table ds good = rw (a-frame-is-seen-as-an-exchange ds good) (an-exchange-is-treated-by-the-table ds (k .address) (k .device) buf)
 
   pub a-controller-hears : Hears k buf
   a-controller-hears =

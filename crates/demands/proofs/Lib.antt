@@ -3,6 +3,7 @@ pub mod Sound
 pub mod Ticks
 pub mod Frames
 pub mod Exchanges
+pub mod InHand
 pub mod Demands
 pub mod Contracts
 pub mod Examples

@@ -1,4 +1,4 @@
--- The three demands, over any calls from making. What they say of frames stands in `specs/Frames`. `proofs/Demands` proves 1 and 3, `proofs/Agreement` 2.
+-- The three demands, over any calls from making. What they say of frames stands in `specs/Frames`, of what calls leave in hand in `specs/InHand`. `proofs/Demands` proves 1 and 3, `proofs/Agreement` 2.
 use Prim.Native.Nat.{ℕ, _-_, _≤_, _<_}
 use mathlib.Core.Path.{_≡_}
 use mathlib.Core.Logic.{_⊎_}
@@ -41,6 +41,7 @@ use Rattle.pipettor.specs.Byte.{byteOf}
 use Rattle.pipettor.specs.Controller.{on, tickedOf, stoppedOf, advancedOf, runOf, readyIs}
 use Rattle.demands.specs.Calls.{Call, after, history, answers}
 use Rattle.demands.specs.Frames.{frameSeen, Treated, Hears, frameAfter, ExchangesFrame}
+use Rattle.demands.specs.InHand.{Receives}
 use Rattle.demands.specs.Contracts.{Program, Meets, TakesAll, leftBy, answeredBy}
 
 -- 1. Every call is answered, and refuses as 01's table says.
@@ -98,6 +99,8 @@ pub record Makes : Type 0 where
 pub record TotalityAndRefusals : Type 0 where
   pub making : Makes
   pub calling : (a : Address) (calls : List Call) → Answers (after a calls)
+  -- a frame's bytes with any calls between them, each with any buffer that is long enough: at its CR it is treated by the table, and every other byte is silent
+  pub receiving : (a : Address) (calls : List Call) → Receives a calls
 
 -- 2. Any program that meets the contracts does what the definition does, call for call: the controller left after calls from making,
 -- and all that was handed back on the way, every byte of every answer buffer included; and what it is called on next meets every premise

@@ -75,22 +75,22 @@ our-letter Nine = refl
 
 -- the CR of a frame to us
 module _ (k : Controller) (ds buf : List ℕ) (long : 32 ≤ length buf) where
-  abbrev ours : ℕ
+  abbrev pub ours : ℕ
   ours = letterOf (k .address)
 
   -- what the exchange leaves
-  abbrev done : Turn Exchange
+  abbrev pub done : Turn Exchange
   done = exchangeOf ds (k .address) (k .device) buf
 
-  record Ended (t : Turn After) : Type 0 where
-    said : t .next .reply .said ≡ done .next .said
-    buffer : t .next .buffer ≡ done .next .buffer
-    device : t .next .reply .controller .device ≡ done .next .device
-    events : t .events ≡ done .events
-    address : t .next .reply .controller .address ≡ k .address
-    line : t .next .reply .controller .line ≡ hearOf (k .line) cr .line
+  pub record Ended (t : Turn After) : Type 0 where
+    pub said : t .next .reply .said ≡ done .next .said
+    pub buffer : t .next .buffer ≡ done .next .buffer
+    pub device : t .next .reply .controller .device ≡ done .next .device
+    pub events : t .events ≡ done .events
+    pub address : t .next .reply .controller .address ≡ k .address
+    pub line : t .next .reply .controller .line ≡ hearOf (k .line) cr .line
 
-  ends : hearOf (k .line) cr .deed ≡ W.Frame ours (min 321 (length ds)) → take (min 320 (length ds)) (k .frame) ≡ take 320 ds → Ended (byteOf k cr buf)
+  pub ends : hearOf (k .line) cr .deed ≡ W.Frame ours (min 321 (length ds)) → take (min 320 (length ds)) (k .frame) ≡ take 320 ds → Ended (byteOf k cr buf)
   unfolding keepOf gotOf squeezedOf exchangeOf
   ends deed kept =
       let b = brings ds (k .frame) kept in

@@ -1,0 +1,207 @@
+-- Theorems: the receiver holds what is in hand after any calls, and so a CR does what the frame in hand does, and every other byte nothing.
+use mathlib.Core.Path.{_≡_, refl, sym, ap, subst, _∙_}
+use mathlib.Core.Bool.{Bool, true, false, false≢true}
+use mathlib.Core.List.{List, [], _∷_, _++_}
+use Prim.Native.Nat.{ℕ, _+_, _≤_, _<_, min}
+use native.Mathlib.Omega.{arith}
+use borrow.Author.Tests.{ltb-true, ltb-false, lt-ltb, le-ltb, eqb-true, eq-eqb}
+use lib.Dec.{ltb, eqb}
+use lib.ListN.{length, take, drop, set, length-append}
+use lib.Seq.{sets-eq, take-at, take-all, take-append-le}
+use Rattle.basics.specs.Choice.{if_then_else_}
+use Rattle.basics.proofs.Choice.{by}
+use Rattle.line.specs.declared.Line.{Line}
+use Rattle.line.specs.declared.Line.the-variants.{Outside, Started, Collecting}
+use Rattle.line.specs.declared.Deed.the-variants as W
+use Rattle.line.specs.declared.Heard.{Heard}
+use Rattle.line.specs.Wire.{slash, cr, printable, waits, endOf, takeOf, hearOf, keepOf, Received, hears, feed}
+use Rattle.line.proofs.Receiving.{feed-long}
+use Rattle.motion.specs.Events.{Turn}
+use Rattle.pipettor.specs.declared.address.Address.{Address}
+use Rattle.pipettor.specs.declared.Controller.{Controller}
+use Rattle.pipettor.specs.Address.{letterOf}
+use Rattle.pipettor.specs.Byte.{After, byteOf}
+use Rattle.pipettor.specs.Listening.{beforeCr, listenedOf}
+use Rattle.pipettor.specs.Controller.{madeOf, tickedOf, stoppedOf, advancedOf, runOf}
+use Rattle.pipettor.specs.Valid.{Valid}
+use Rattle.pipettor.proofs.Keeps.{Sized, made-is-valid}
+use Rattle.frames.specs.Frame.{exchangeOf, Other}
+use Rattle.frames.proofs.Bytes.{receiver, byte-does, byte-other}
+use Rattle.frames.proofs.Frames.{ends}
+use Rattle.frames.proofs.Calls.{s1-changes-nothing}
+use Rattle.demands.specs.Calls.{Call, byte, listen, tick, stop, advance, run, callOf, afterOf, after}
+use Rattle.demands.specs.InHand.{Hand, none, begun, to, longer, handOf, handsOf, handAfter, handsAfter, inHand, byteSeen, unheeded, Receives}
+use Rattle.demands.proofs.Frames.{an-exchange-is-treated-by-the-table}
+use Rattle.demands.proofs.Sound.{call-keeps-sized, call-keeps-valid, made-is-sized}
+use Rattle.demands.proofs.Exchanges.{the-address-stays}
+
+-- a receiver that holds what is in hand: the first 320 data bytes, and a count of 321 for more
+abbrev Shows : Hand → Received → Type 0
+Shows none r = r .line ≡ Outside
+Shows begun r = r .line ≡ Started
+Shows (to a ds) r = (r .line ≡ Collecting a (min 321 (length ds))) × (take (min 320 (length ds)) (r .frame) ≡ take 320 ds)
+
+abbrev at : Line → List ℕ → Received
+at l f = record { line = l; frame = f }
+
+-- one number is below another, or not
+less : {G : Type 0} (n m : ℕ) → (n < m → G) → (m ≤ n → G) → G
+less {G} n m f g = by (λ (t : Bool). G) (ltb n m) {a = true} {b = true} (λ e. f (ltb-true n m e)) (λ e. g (ltb-false n m e))
+
+-- one more data byte: kept behind the others, or counted as one too many
+one-more : (ds f : List ℕ) (b : ℕ) → length f ≡ 320 → length ds < 320 → take (length ds) f ≡ ds → take (length ds + 1) (set f (length ds) b) ≡ ds ++ (b ∷ [])
+one-more ds f b n h e =
+    let l : length (ds ++ (b ∷ [])) ≡ length ds + 1 = length-append ds (b ∷ []) in
+    let s : set f (length ds) b ≡ take (length ds) f ++ (b ∷ []) ++ drop (length ds + 1) f = sets-eq (b ∷ []) f (length ds) (omega arith) in
+    rw (s, e) (take-at (ds ++ (b ∷ [])) (drop (length ds + 1) f) (length ds + 1) l)
+
+module _ (a b : ℕ) (ds f : List ℕ) (kept : take (min 320 (length ds)) f ≡ take 320 ds) where
+  count : length (ds ++ (b ∷ [])) ≡ length ds + 1
+  count = length-append ds (b ∷ [])
+
+  abbrev Collects : Type 0
+  Collects = let h = takeOf (Collecting a (min 321 (length ds))) b in Shows (to a (ds ++ (b ∷ []))) (at (h .line) (keepOf f (h .deed) b))
+
+  room : length f ≡ 320 → length ds < 320 → Collects
+  unfolding takeOf keepOf
+  room n h =
+      let m : min 321 (length ds) ≡ length ds = omega arith in
+      let p : min 320 (length ds) ≡ length ds = omega arith in
+      let q : min 321 (length ds + 1) ≡ length ds + 1 = omega arith in
+      let r : min 320 (length ds + 1) ≡ length ds + 1 = omega arith in
+      let whole : take (length ds) f ≡ ds = rw (p, take-all 320 ds (omega arith)) at kept in
+      let all : take 320 (ds ++ (b ∷ [])) ≡ ds ++ (b ∷ []) = take-all 320 (ds ++ (b ∷ [])) (omega (arith, count)) in
+      rw (m, lt-ltb (length ds) 320 h, count, q, r, all) (refl, one-more ds f b n h whole)
+
+  full : 320 ≤ length ds → Collects
+  unfolding takeOf keepOf
+  full h =
+      let m : 320 ≤ min 321 (length ds) = omega arith in
+      let p : min 320 (length ds) ≡ 320 = omega arith in
+      let q : min 321 (length ds + 1) ≡ 321 = omega arith in
+      let r : min 320 (length ds + 1) ≡ 320 = omega arith in
+      let first : take 320 f ≡ take 320 ds = rw p at kept in
+      rw (le-ltb (min 321 (length ds)) 320 m, count, q, r) (refl, first ∙ sym (take-append-le 320 ds (b ∷ []) h))
+
+-- any byte
+takes : (h : Hand) (l : Line) (f : List ℕ) (b : ℕ) → length f ≡ 320 → Shows h (at l f) → Shows (longer h b) (at (takeOf l b .line) (keepOf f (takeOf l b .deed) b))
+unfolding takeOf keepOf
+takes none l f b n s = rw s
+takes begun l f b n s = rw s (refl, refl)
+takes (to a ds) l f b n s = rw (s .0) (less (length ds) 320 (room a b ds f (s .1) n) (full a b ds f (s .1)))
+
+ended : (l : Line) → endOf l .line ≡ Outside
+unfolding endOf
+ended Outside = refl
+ended Started = refl
+ended (Collecting a n) = refl
+
+heard : (h : Hand) (r : Received) (b : ℕ) → length (r .frame) ≡ 320 → Shows h r → Shows (handOf h b) (hears r b)
+unfolding handOf hears hearOf
+heard h r b n s = go (eqb b slash) (eqb b cr) (printable b)
+  where
+    go : (x y z : Bool) →
+        (let t = if x then waits Started else if y then endOf (r .line) else if z then takeOf (r .line) b else waits Outside in
+        Shows (if x then begun else if y then none else if z then longer h b else none) (at (t .line) (keepOf (r .frame) (t .deed) b)))
+    go true y z = refl
+    go false true z = ended (r .line)
+    go false false true = takes h (r .line) (r .frame) b n s
+    go false false false = refl
+
+all-heard : (h : Hand) (r : Received) (bs : List ℕ) → length (r .frame) ≡ 320 → Shows h r → Shows (handsOf h bs) (feed r bs)
+unfolding feed handsOf
+all-heard h r [] n s = s
+all-heard h r (b ∷ bs) n s = all-heard (handOf h b) (hears r b) bs (feed-long r (b ∷ []) ∙ n) (heard h r b n s)
+
+-- only a CR with a frame to us in hand completes one
+take-other : (ours : ℕ) (l : Line) (b : ℕ) → Other ours (takeOf l b .deed)
+unfolding takeOf
+take-other ours Outside b = tt
+take-other ours Started b = tt
+take-other ours (Collecting a n) b = by (λ (x : Heard). Other ours (x .deed)) (ltb n 320) (λ e. tt) (λ e. tt)
+
+end-other : (ours : ℕ) (h : Hand) (r : Received) → Shows h r → ((ds : List ℕ) → h ≡ to ours ds → ⊥) → Other ours (endOf (r .line) .deed)
+unfolding endOf
+end-other ours none r s not = rw s tt
+end-other ours begun r s not = rw s tt
+end-other ours (to a ds) r s not = rw (s .0) (λ e. not ds (ap (λ (x : ℕ). to x ds) e))
+
+other : (ours : ℕ) (h : Hand) (r : Received) (b : ℕ) → Shows h r → (b ≡ cr → (ds : List ℕ) → h ≡ to ours ds → ⊥) → Other ours (hearOf (r .line) b .deed)
+unfolding hearOf
+other ours h r b s not =
+    by (λ (x : Heard). Other ours (x .deed)) (eqb b slash) (λ e. tt) (λ e.
+    by (λ (x : Heard). Other ours (x .deed)) (eqb b cr) (λ e. end-other ours h r s (not (eqb-true b cr e))) (λ e.
+    by (λ (x : Heard). Other ours (x .deed)) (printable b) (λ e. take-other ours (r .line) b) (λ e. tt)))
+
+-- a byte with a buffer that is long enough: a CR leaves nothing in hand, whatever it completes; any other byte is only heard
+abbrev In : Hand → Controller → Type 0
+In h k = Shows h (receiver k)
+
+module _ (h : Hand) (k : Controller) (buf : List ℕ) (long : 32 ≤ length buf) (s : In h k) where
+  cr-called : In none (byteOf k cr buf .next .reply .controller)
+  unfolding hearOf
+  cr-called = subst (λ (t : Turn After). In none (t .next .reply .controller)) (sym (byte-does k cr buf long)) (ended (k .line))
+
+  other-called : (b : ℕ) → length (k .frame) ≡ 320 → (b ≡ cr → ⊥) → In (handOf h b) (byteOf k b buf .next .reply .controller)
+  other-called b n not =
+      let o = other (letterOf (k .address)) h (receiver k) b s (λ e ds is. not e) in
+      subst (λ (t : Turn After). In (handOf h b) (t .next .reply .controller)) (sym (byte-other k b buf long o)) (heard h (receiver k) b n s)
+
+  long-called : (b : ℕ) → length (k .frame) ≡ 320 → In (handOf h b) (byteOf k b buf .next .reply .controller)
+  unfolding handOf
+  long-called b n =
+      by (λ (t : Bool). In (handOf h b) (byteOf k b buf .next .reply .controller)) (eqb b cr) {a = true} {b = true}
+      (λ e. subst (λ (x : ℕ). In (handOf h x) (byteOf k x buf .next .reply .controller)) (sym (eqb-true b cr e)) cr-called)
+      (λ e. other-called b n (λ is. false≢true (sym e ∙ eq-eqb b cr is)))
+
+byte-called : (b : ℕ) (buf : List ℕ) (h : Hand) (k : Controller) → length (k .frame) ≡ 320 → In h k →
+    In (if ltb (length buf) 32 then h else handOf h b) (byteOf k b buf .next .reply .controller)
+byte-called b buf h k n s =
+    by (λ (x : Hand). In x (byteOf k b buf .next .reply .controller)) (ltb (length buf) 32)
+    (λ e. subst (λ (t : Turn After). In h (t .next .reply .controller)) (sym (s1-changes-nothing k b buf (ltb-true (length buf) 32 e))) s)
+    (λ e. long-called h k buf (ltb-false (length buf) 32 e) s b n)
+
+-- any calls
+called : (c : Call) (h : Hand) (k : Controller) → length (k .frame) ≡ 320 → In h k → In (handAfter c h) (callOf c k .next)
+unfolding handAfter callOf listenedOf tickedOf stoppedOf advancedOf runOf
+called (byte b l) h k n s = byte-called b (l .buffer) h k n s
+called (listen bytes) h k n s = all-heard h (receiver k) (beforeCr bytes) n s
+called tick h k n s = s
+called stop h k n s = s
+called (advance m) h k n s = s
+called (run m) h k n s = s
+
+all-called : (cs : List Call) (h : Hand) (k : Controller) → Sized k → Valid k → In h k → In (handsAfter cs h) (afterOf cs k)
+unfolding handsAfter afterOf
+all-called [] h k z v s = s
+all-called (c ∷ cs) h k z v s = all-called cs (handAfter c h) (callOf c k .next) (call-keeps-sized c k z v) (call-keeps-valid c k z v) (called c h k (z .frame) s)
+
+the-receiver-holds-what-is-in-hand : (a : Address) (calls : List Call) → In (inHand calls) (after a calls)
+unfolding after madeOf
+the-receiver-holds-what-is-in-hand a calls = all-called calls none (madeOf a .next) (made-is-sized a) (made-is-valid a) refl
+
+-- one more byte
+module _ (a : Address) (calls : List Call) where
+  ending : (ds buf : List ℕ) → inHand calls ≡ to (letterOf a) ds → 32 ≤ length buf → byteSeen (after a calls) cr buf ≡ exchangeOf ds a (after a calls .device) buf
+  unfolding hearOf endOf
+  ending ds buf hand long =
+      let us = the-address-stays a calls in
+      let holds = subst (λ (h : Hand). In h (after a calls)) hand (the-receiver-holds-what-is-in-hand a calls) in
+      let deed : hearOf (after a calls .line) cr .deed ≡ W.Frame (letterOf (after a calls .address)) (min 321 (length ds)) = rw (holds .0, us) in
+      let e = ends (after a calls) ds buf long deed (holds .1) in
+      rw (e .said, e .buffer, e .device, e .events, us)
+
+  silent : (b : ℕ) (buf : List ℕ) → (b ≡ cr → (ds : List ℕ) → inHand calls ≡ to (letterOf a) ds → ⊥) → 32 ≤ length buf → byteSeen (after a calls) b buf ≡ unheeded (after a calls) buf
+  silent b buf not long =
+      let holds = the-receiver-holds-what-is-in-hand a calls in
+      let o = other (letterOf a) (inHand calls) (receiver (after a calls)) b holds not in
+      let p = subst (λ (x : Address). Other (letterOf x) (hearOf (after a calls .line) b .deed)) (sym (the-address-stays a calls)) o in
+      rw (byte-other (after a calls) b buf long p)
+
+pub every-controller-receives : (a : Address) (calls : List Call) → Receives a calls
+every-controller-receives a calls =
+    record {
+      a-frame-that-ends-is-an-exchange = ending a calls;
+      a-frame-that-ends-is-treated-by-the-table = λ ds buf hand long. rw (ending a calls ds buf hand long) (an-exchange-is-treated-by-the-table ds a (after a calls .device) buf);
+      every-other-byte-is-silent = silent a calls;
+    }

@@ -1,0 +1,87 @@
+-- What has been received of a frame after any calls, by 01's words alone: without the receiver, its limit of 320 data bytes, or the frame it keeps.
+-- And what one more byte then does, whatever ticks, runs, stops and buffers came between the bytes of a frame.
+use Prim.Native.Nat.{ℕ, _≤_}
+use mathlib.Core.Path.{_≡_}
+use mathlib.Core.List.{List, [], _∷_, _++_}
+use lib.Dec.{ltb, eqb}
+use lib.ListN.{length}
+use Rattle.basics.specs.Choice.{if_then_else_}
+use Rattle.line.specs.Wire.{slash, cr, printable}
+use Rattle.motion.specs.Events.{Turn, quiet}
+use Rattle.pipettor.specs.declared.address.Address.{Address}
+use Rattle.pipettor.specs.declared.Controller.{Controller}
+use Rattle.pipettor.specs.declared.Said.the-variants.{Silent}
+use Rattle.pipettor.specs.Address.{letterOf}
+use Rattle.pipettor.specs.Byte.{Exchange, byteOf}
+use Rattle.pipettor.specs.Listening.{beforeCr}
+use Rattle.frames.specs.Frame.{exchangeOf}
+use Rattle.demands.specs.Calls.{Call, byte, listen, tick, stop, advance, run, after}
+use Rattle.demands.specs.Frames.{Treated}
+
+-- nothing; a `/`; an address, with all data bytes since
+pub data Hand : Type 0 where
+  none : Hand
+  begun : Hand
+  to : ℕ → List ℕ → Hand
+
+-- a byte of 20h to 7Eh: "Outside a frame everything but `/` is ignored"; "Frame: `/` (2Fh), address, data, CR (0Dh)"
+abbrev pub longer : Hand → ℕ → Hand
+longer none b = none
+longer begun b = to b []
+longer (to a ds) b = to a (ds ++ (b ∷ []))
+
+-- "`/` always starts a new frame and drops the one in hand."
+-- CR ends a frame, and "CR straight after `/` drops the frame": either way nothing is left in hand.
+-- "A byte other than CR and 20h to 7Eh drops the frame; the receiver waits for `/`."
+unfoldable pub handOf : Hand → ℕ → Hand
+handOf h b =
+    if eqb b slash then begun
+    else if eqb b cr then none
+    else if printable b then longer h b
+    else none
+
+-- "Bytes come one at a time."
+unfoldable pub handsOf : Hand → List ℕ → Hand
+handsOf h [] = h
+handsOf h (b ∷ bs) = handsOf (handOf h b) bs
+
+-- after a call: "S1: answer buffer lent is shorter than 32 bytes: controller and buffer unchanged"; listening takes the bytes before a CR; no other call brings bytes
+unfoldable pub handAfter : Call → Hand → Hand
+handAfter (byte b l) h = if ltb (length (l .buffer)) 32 then h else handOf h b
+handAfter (listen bytes) h = handsOf h (beforeCr bytes)
+handAfter tick h = h
+handAfter stop h = h
+handAfter (advance n) h = h
+handAfter (run n) h = h
+
+-- after calls, first to last
+unfoldable pub handsAfter : List Call → Hand → Hand
+handsAfter [] h = h
+handsAfter (c ∷ cs) h = handsAfter cs (handAfter c h)
+
+-- from making
+abbrev pub inHand : List Call → Hand
+inHand calls = handsAfter calls none
+
+-- what is seen of one byte: the device, what is said, and the buffer; with what it adds to the history
+abbrev pub byteSeen : Controller → ℕ → List ℕ → Turn Exchange
+byteSeen k b buf =
+    let t = byteOf k b buf in
+    record { next = record { device = t .next .reply .controller .device; said = t .next .reply .said; buffer = t .next .buffer }; events = t .events }
+
+-- "All of these are silent": nothing is said, written, done or added to the history
+abbrev pub unheeded : Controller → List ℕ → Turn Exchange
+unheeded k buf = quiet (record { device = k .device; said = Silent; buffer = buf })
+
+-- A byte after any calls from making, with a buffer lent that is long enough:
+pub record Receives (a : Address) (calls : List Call) : Type 0 where
+  -- a CR with a frame to us in hand: answer, buffer, device and history are those of the exchange of its data, the address and the device
+  pub a-frame-that-ends-is-an-exchange :
+      (ds buf : List ℕ) → inHand calls ≡ to (letterOf a) ds → 32 ≤ length buf → byteSeen (after a calls) cr buf ≡ exchangeOf ds a (after a calls .device) buf
+  -- it gets each number exactly where 01's table gives it, and leaves what the table says
+  pub a-frame-that-ends-is-treated-by-the-table :
+      (ds buf : List ℕ) → inHand calls ≡ to (letterOf a) ds → 32 ≤ length buf → Treated ds a (after a calls .device) buf (byteSeen (after a calls) cr buf)
+  -- any other byte: a CR with nothing, a `/` alone or a frame to another address in hand ("Any other address: silent"), and all that isn't CR
+  pub every-other-byte-is-silent :
+      (b : ℕ) (buf : List ℕ) → (b ≡ cr → (ds : List ℕ) → inHand calls ≡ to (letterOf a) ds → ⊥) → 32 ≤ length buf →
+      byteSeen (after a calls) b buf ≡ unheeded (after a calls) buf
