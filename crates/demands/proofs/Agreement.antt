@@ -16,6 +16,7 @@ use Rattle.demands.specs.Script.{Line, _answers_, _ticks_exact_, _run-us
 use Rattle.demands.proofs.Examples.{impostors, computed}
 use Rattle.demands.proofs.Frames.{a-controller-hears}
 use Rattle.demands.proofs.Exchanges.{an-agreeing-program-exchanges}
+use Rattle.demands.proofs.InHand.{an-agreeing-program-receives}
 use Rattle.demands.proofs.Sound.{call-keeps-valid, call-keeps-sized, made-is-sized, every-controller-is-sound}
 
 module _ (p : Program) (m : Meets p) where
@@ -52,6 +53,7 @@ every-program-that-meets-the-contracts-agrees =
       every-program-agrees = every-program-agrees;
       frames = λ a calls buf long. a-controller-hears (after a calls) (every-controller-is-sound a calls .sized .frame) buf long;
       every-program-exchanges-frames = λ p m a calls ds buf good long takes. an-agreeing-program-exchanges a calls ds buf good long p (every-program-agrees p m a (calls ++ frameAfter a calls ds buf) takes);
+      every-program-receives = λ p m a calls. an-agreeing-program-receives p a calls (every-program-agrees p m a);
     }
 
 -- scripts

@@ -24,17 +24,17 @@ use Rattle.demands.specs.Frames.{frameAfter, ExchangesFrame}
 use Rattle.demands.proofs.Frames.{to-give-bytes-is-to-call}
 use Rattle.demands.proofs.Sound.{every-controller-is-sound}
 
-after-two : (xs ys : List Call) (k : Controller) → afterOf (xs ++ ys) k ≡ afterOf ys (afterOf xs k)
+pub after-two : (xs ys : List Call) (k : Controller) → afterOf (xs ++ ys) k ≡ afterOf ys (afterOf xs k)
 unfolding afterOf
 after-two [] ys k = refl
 after-two (c ∷ xs) ys k = after-two xs ys (callOf c k .next)
 
-answers-two : (xs ys : List Call) (k : Controller) → answersOf (xs ++ ys) k ≡ answersOf xs k ++ answersOf ys (afterOf xs k)
+pub answers-two : (xs ys : List Call) (k : Controller) → answersOf (xs ++ ys) k ≡ answersOf xs k ++ answersOf ys (afterOf xs k)
 unfolding afterOf answersOf
 answers-two [] ys k = refl
 answers-two (c ∷ xs) ys k = ap (_∷_ (answerOf c k)) (answers-two xs ys (callOf c k .next))
 
-events-two : (xs ys : List Call) (k : Controller) → eventsOf (xs ++ ys) k ≡ eventsOf xs k ++ eventsOf ys (afterOf xs k)
+pub events-two : (xs ys : List Call) (k : Controller) → eventsOf (xs ++ ys) k ≡ eventsOf xs k ++ eventsOf ys (afterOf xs k)
 unfolding afterOf eventsOf
 events-two [] ys k = refl
 events-two (c ∷ xs) ys k =

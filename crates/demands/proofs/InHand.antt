@@ -1,20 +1,22 @@
 -- Theorems: the receiver holds what is in hand after any calls, and so a CR does what the frame in hand does, and every other byte nothing.
 use mathlib.Core.Path.{_≡_, refl, sym, ap, subst, _∙_}
-use mathlib.Core.Bool.{Bool, true, false, false≢true}
-use mathlib.Core.List.{List, [], _∷_, _++_}
+use mathlib.Core.Bool.{Bool, true, false, false≢true, not}
+use mathlib.Core.List.{List, [], _∷_, _++_, append-assoc, append-nil}
 use Prim.Native.Nat.{ℕ, _+_, _≤_, _<_, min}
 use native.Mathlib.Omega.{arith}
-use borrow.Author.Tests.{ltb-true, ltb-false, lt-ltb, le-ltb, eqb-true, eq-eqb}
+use borrow.Author.Tests.{ltb-true, ltb-false, lt-ltb, le-ltb, eqb-true, eq-eqb, ne-eqb, not-true}
 use lib.Dec.{ltb, eqb}
 use lib.ListN.{length, take, drop, set, length-append}
 use lib.Seq.{sets-eq, take-at, take-all, take-append-le}
 use Rattle.basics.specs.Choice.{if_then_else_}
+use Rattle.basics.specs.Bytes.{every}
 use Rattle.basics.proofs.Choice.{by}
+use Rattle.basics.proofs.Digits.{and-both}
 use Rattle.line.specs.declared.Line.{Line}
 use Rattle.line.specs.declared.Line.the-variants.{Outside, Started, Collecting}
 use Rattle.line.specs.declared.Deed.the-variants as W
 use Rattle.line.specs.declared.Heard.{Heard}
-use Rattle.line.specs.Wire.{slash, cr, printable, waits, endOf, takeOf, hearOf, keepOf, Received, hears, feed}
+use Rattle.line.specs.Wire.{slash, cr, printable, waits, endOf, takeOf, hearOf, keepOf, Received, hears, feed, dataByte}
 use Rattle.line.proofs.Receiving.{feed-long}
 use Rattle.motion.specs.Events.{Turn}
 use Rattle.pipettor.specs.declared.address.Address.{Address}
@@ -29,11 +31,13 @@ use Rattle.frames.specs.Frame.{exchangeOf, Other}
 use Rattle.frames.proofs.Bytes.{receiver, byte-does, byte-other}
 use Rattle.frames.proofs.Frames.{ends}
 use Rattle.frames.proofs.Calls.{s1-changes-nothing}
-use Rattle.demands.specs.Calls.{Call, byte, listen, tick, stop, advance, run, callOf, afterOf, after}
-use Rattle.demands.specs.InHand.{Hand, none, begun, to, longer, handOf, handsOf, handAfter, handsAfter, inHand, byteSeen, unheeded, Receives}
+use Rattle.demands.specs.Calls.{lent, Call, byte, listen, tick, stop, advance, run, callOf, answerOf, afterOf, eventsOf, answersOf, after, history, answers}
+use Rattle.demands.specs.Contracts.{Program, TakesAll}
+use Rattle.demands.specs.Demands.{Agrees}
+use Rattle.demands.specs.InHand.{Hand, none, begun, to, longer, handOf, handsOf, broughtBy, brought, inHand, byteSeen, unheeded, Receives, oneByte, HandsBack, ReceivesBy}
 use Rattle.demands.proofs.Frames.{an-exchange-is-treated-by-the-table}
 use Rattle.demands.proofs.Sound.{call-keeps-sized, call-keeps-valid, made-is-sized}
-use Rattle.demands.proofs.Exchanges.{the-address-stays}
+use Rattle.demands.proofs.Exchanges.{after-two, answers-two, events-two, the-address-stays}
 
 -- a receiver that holds what is in hand: the first 320 data bytes, and a count of 321 for more
 abbrev Shows : Hand → Received → Type 0
@@ -122,15 +126,15 @@ take-other ours (Collecting a n) b = by (λ (x : Heard). Other ours (x .deed)) (
 
 end-other : (ours : ℕ) (h : Hand) (r : Received) → Shows h r → ((ds : List ℕ) → h ≡ to ours ds → ⊥) → Other ours (endOf (r .line) .deed)
 unfolding endOf
-end-other ours none r s not = rw s tt
-end-other ours begun r s not = rw s tt
-end-other ours (to a ds) r s not = rw (s .0) (λ e. not ds (ap (λ (x : ℕ). to x ds) e))
+end-other ours none r s but = rw s tt
+end-other ours begun r s but = rw s tt
+end-other ours (to a ds) r s but = rw (s .0) (λ e. but ds (ap (λ (x : ℕ). to x ds) e))
 
 other : (ours : ℕ) (h : Hand) (r : Received) (b : ℕ) → Shows h r → (b ≡ cr → (ds : List ℕ) → h ≡ to ours ds → ⊥) → Other ours (hearOf (r .line) b .deed)
 unfolding hearOf
-other ours h r b s not =
+other ours h r b s but =
     by (λ (x : Heard). Other ours (x .deed)) (eqb b slash) (λ e. tt) (λ e.
-    by (λ (x : Heard). Other ours (x .deed)) (eqb b cr) (λ e. end-other ours h r s (not (eqb-true b cr e))) (λ e.
+    by (λ (x : Heard). Other ours (x .deed)) (eqb b cr) (λ e. end-other ours h r s (but (eqb-true b cr e))) (λ e.
     by (λ (x : Heard). Other ours (x .deed)) (printable b) (λ e. take-other ours (r .line) b) (λ e. tt)))
 
 -- a byte with a buffer that is long enough: a CR leaves nothing in hand, whatever it completes; any other byte is only heard
@@ -143,8 +147,8 @@ module _ (h : Hand) (k : Controller) (buf : List ℕ) (long : 32 ≤ length buf)
   cr-called = subst (λ (t : Turn After). In none (t .next .reply .controller)) (sym (byte-does k cr buf long)) (ended (k .line))
 
   other-called : (b : ℕ) → length (k .frame) ≡ 320 → (b ≡ cr → ⊥) → In (handOf h b) (byteOf k b buf .next .reply .controller)
-  other-called b n not =
-      let o = other (letterOf (k .address)) h (receiver k) b s (λ e ds is. not e) in
+  other-called b n but =
+      let o = other (letterOf (k .address)) h (receiver k) b s (λ e ds is. but e) in
       subst (λ (t : Turn After). In (handOf h b) (t .next .reply .controller)) (sym (byte-other k b buf long o)) (heard h (receiver k) b n s)
 
   long-called : (b : ℕ) → length (k .frame) ≡ 320 → In (handOf h b) (byteOf k b buf .next .reply .controller)
@@ -155,15 +159,16 @@ module _ (h : Hand) (k : Controller) (buf : List ℕ) (long : 32 ≤ length buf)
       (λ e. other-called b n (λ is. false≢true (sym e ∙ eq-eqb b cr is)))
 
 byte-called : (b : ℕ) (buf : List ℕ) (h : Hand) (k : Controller) → length (k .frame) ≡ 320 → In h k →
-    In (if ltb (length buf) 32 then h else handOf h b) (byteOf k b buf .next .reply .controller)
+    In (handsOf h (if ltb (length buf) 32 then [] else b ∷ [])) (byteOf k b buf .next .reply .controller)
+unfolding handsOf
 byte-called b buf h k n s =
-    by (λ (x : Hand). In x (byteOf k b buf .next .reply .controller)) (ltb (length buf) 32)
+    by (λ (bs : List ℕ). In (handsOf h bs) (byteOf k b buf .next .reply .controller)) (ltb (length buf) 32)
     (λ e. subst (λ (t : Turn After). In h (t .next .reply .controller)) (sym (s1-changes-nothing k b buf (ltb-true (length buf) 32 e))) s)
     (λ e. long-called h k buf (ltb-false (length buf) 32 e) s b n)
 
 -- any calls
-called : (c : Call) (h : Hand) (k : Controller) → length (k .frame) ≡ 320 → In h k → In (handAfter c h) (callOf c k .next)
-unfolding handAfter callOf listenedOf tickedOf stoppedOf advancedOf runOf
+called : (c : Call) (h : Hand) (k : Controller) → length (k .frame) ≡ 320 → In h k → In (handsOf h (broughtBy c)) (callOf c k .next)
+unfolding handsOf callOf listenedOf tickedOf stoppedOf advancedOf runOf
 called (byte b l) h k n s = byte-called b (l .buffer) h k n s
 called (listen bytes) h k n s = all-heard h (receiver k) (beforeCr bytes) n s
 called tick h k n s = s
@@ -171,14 +176,52 @@ called stop h k n s = s
 called (advance m) h k n s = s
 called (run m) h k n s = s
 
-all-called : (cs : List Call) (h : Hand) (k : Controller) → Sized k → Valid k → In h k → In (handsAfter cs h) (afterOf cs k)
-unfolding handsAfter afterOf
+hands-append : (h : Hand) (xs ys : List ℕ) → handsOf h (xs ++ ys) ≡ handsOf (handsOf h xs) ys
+unfolding handsOf
+hands-append h [] ys = refl
+hands-append h (x ∷ xs) ys = hands-append (handOf h x) xs ys
+
+all-called : (cs : List Call) (h : Hand) (k : Controller) → Sized k → Valid k → In h k → In (handsOf h (brought cs)) (afterOf cs k)
+unfolding handsOf brought afterOf
 all-called [] h k z v s = s
-all-called (c ∷ cs) h k z v s = all-called cs (handAfter c h) (callOf c k .next) (call-keeps-sized c k z v) (call-keeps-valid c k z v) (called c h k (z .frame) s)
+all-called (c ∷ cs) h k z v s =
+    rw (hands-append h (broughtBy c) (brought cs))
+    (all-called cs (handsOf h (broughtBy c)) (callOf c k .next) (call-keeps-sized c k z v) (call-keeps-valid c k z v) (called c h k (z .frame) s))
 
 the-receiver-holds-what-is-in-hand : (a : Address) (calls : List Call) → In (inHand calls) (after a calls)
-unfolding after madeOf
+unfolding inHand after madeOf
 the-receiver-holds-what-is-in-hand a calls = all-called calls none (madeOf a .next) (made-is-sized a) (made-is-valid a) refl
+
+-- a frame but for its CR
+no-cr : (b : ℕ) → printable b ≡ true → b ≡ cr → ⊥
+unfolding printable
+no-cr b p e = false≢true (subst (λ (x : ℕ). printable x ≡ true) e p)
+
+hand-data : (h : Hand) (b : ℕ) → dataByte b ≡ true → handOf h b ≡ longer h b
+unfolding handOf dataByte
+hand-data h b d =
+    let p = and-both (printable b) (not (eqb b slash)) d in
+    rw (not-true (eqb b slash) (p .1), ne-eqb b cr (no-cr b (p .0)), p .0)
+
+collected : (a : ℕ) (xs ds : List ℕ) → every dataByte ds ≡ true → handsOf (to a xs) ds ≡ to a (xs ++ ds)
+unfolding handsOf every
+collected a xs [] q = rw append-nil
+collected a xs (b ∷ bs) q =
+    let d = and-both (dataByte b) (every dataByte bs) q in
+    rw (hand-data (to a xs) b (d .0), collected a (xs ++ (b ∷ [])) bs (d .1), append-assoc xs (b ∷ []) bs)
+
+hand-slash : (h : Hand) → handOf h slash ≡ begun
+unfolding handOf
+hand-slash h = refl
+
+begins : (h : Hand) (a : ℕ) (ds : List ℕ) → dataByte a ≡ true → every dataByte ds ≡ true → handsOf h (slash ∷ a ∷ ds) ≡ to a ds
+unfolding handsOf
+begins h a ds p q = rw (hand-slash h, hand-data begun a p) (collected a [] ds q)
+
+frame-in-hand :
+    (calls : List Call) (noise ds : List ℕ) (a : ℕ) → dataByte a ≡ true → every dataByte ds ≡ true → brought calls ≡ noise ++ (slash ∷ a ∷ ds) → inHand calls ≡ to a ds
+unfolding inHand
+frame-in-hand calls noise ds a p q e = rw e (hands-append none noise (slash ∷ a ∷ ds) ∙ begins (handsOf none noise) a ds p q)
 
 -- one more byte
 module _ (a : Address) (calls : List Call) where
@@ -192,16 +235,42 @@ module _ (a : Address) (calls : List Call) where
       rw (e .said, e .buffer, e .device, e .events, us)
 
   silent : (b : ℕ) (buf : List ℕ) → (b ≡ cr → (ds : List ℕ) → inHand calls ≡ to (letterOf a) ds → ⊥) → 32 ≤ length buf → byteSeen (after a calls) b buf ≡ unheeded (after a calls) buf
-  silent b buf not long =
+  silent b buf but long =
       let holds = the-receiver-holds-what-is-in-hand a calls in
-      let o = other (letterOf a) (inHand calls) (receiver (after a calls)) b holds not in
+      let o = other (letterOf a) (inHand calls) (receiver (after a calls)) b holds but in
       let p = subst (λ (x : Address). Other (letterOf x) (hearOf (after a calls .line) b .deed)) (sym (the-address-stays a calls)) o in
       rw (byte-other (after a calls) b buf long p)
 
 pub every-controller-receives : (a : Address) (calls : List Call) → Receives a calls
 every-controller-receives a calls =
     record {
+      a-frame-is-in-hand = frame-in-hand calls;
       a-frame-that-ends-is-an-exchange = ending a calls;
       a-frame-that-ends-is-treated-by-the-table = λ ds buf hand long. rw (ending a calls ds buf hand long) (an-exchange-is-treated-by-the-table ds a (after a calls .device) buf);
       every-other-byte-is-silent = silent a calls;
     }
+
+-- the same of a program that agrees with the definition
+module _ (p : Program) (a : Address) (calls : List Call) where
+  hands-back : (b : ℕ) (buf : List ℕ) → Agrees p a (oneByte calls b buf) → HandsBack p a calls b buf (byteSeen (after a calls) b buf)
+  unfolding after answers history afterOf answersOf eventsOf callOf answerOf
+  hands-back b buf agrees =
+      let m = madeOf a in
+      let last = byte b (lent buf) ∷ [] in
+      let here = byteOf (after a calls) b buf in
+      record {
+        device = ap (λ (k : Controller). k .device) (agrees .controller ∙ after-two calls last (m .next));
+        answered = agrees .answered ∙ answers-two calls last (m .next);
+        events =
+            ap (_++_ (m .events)) (events-two calls last (m .next) ∙ ap (_++_ (eventsOf calls (m .next))) (append-nil (here .events))) ∙
+            sym (append-assoc (m .events) (eventsOf calls (m .next)) (here .events));
+      }
+
+  pub an-agreeing-program-receives : ((cs : List Call) → TakesAll p cs → Agrees p a cs) → ReceivesBy p a calls
+  an-agreeing-program-receives agrees =
+      record {
+        a-frame-that-ends-is-an-exchange =
+            λ ds buf hand long takes. subst (HandsBack p a calls cr buf) (ending a calls ds buf hand long) (hands-back cr buf (agrees (oneByte calls cr buf) takes));
+        every-other-byte-is-silent =
+            λ b buf but long takes. subst (HandsBack p a calls b buf) (silent a calls b buf but long) (hands-back b buf (agrees (oneByte calls b buf) takes));
+      }

@@ -41,7 +41,7 @@ use Rattle.pipettor.specs.Byte.{byteOf}
 use Rattle.pipettor.specs.Controller.{on, tickedOf, stoppedOf, advancedOf, runOf, readyIs}
 use Rattle.demands.specs.Calls.{Call, after, history, answers}
 use Rattle.demands.specs.Frames.{frameSeen, Treated, Hears, frameAfter, ExchangesFrame}
-use Rattle.demands.specs.InHand.{Receives}
+use Rattle.demands.specs.InHand.{Receives, ReceivesBy}
 use Rattle.demands.specs.Contracts.{Program, Meets, TakesAll, leftBy, answeredBy}
 
 -- 1. Every call is answered, and refuses as 01's table says.
@@ -117,6 +117,8 @@ pub record Agreement : Type 1 where
   pub every-program-exchanges-frames :
       (p : Program) → Meets p → (a : Address) (calls : List Call) (ds buf : List ℕ) → every dataByte ds ≡ true → 32 ≤ length buf →
       TakesAll p (calls ++ frameAfter a calls ds buf) → ExchangesFrame p a calls ds buf
+  -- with any calls between its bytes too: at the CR the exchange, and at every other byte silence
+  pub every-program-receives : (p : Program) → Meets p → (a : Address) (calls : List Call) → ReceivesBy p a calls
 
 abbrev nL : ℕ → Volume
 nL n = record { amount = n; micro = true }

@@ -2,11 +2,13 @@
 -- And what one more byte then does, whatever ticks, runs, stops and buffers came between the bytes of a frame.
 use Prim.Native.Nat.{ℕ, _≤_}
 use mathlib.Core.Path.{_≡_}
+use mathlib.Core.Bool.{true}
 use mathlib.Core.List.{List, [], _∷_, _++_}
 use lib.Dec.{ltb, eqb}
 use lib.ListN.{length}
 use Rattle.basics.specs.Choice.{if_then_else_}
-use Rattle.line.specs.Wire.{slash, cr, printable}
+use Rattle.basics.specs.Bytes.{every}
+use Rattle.line.specs.Wire.{slash, cr, printable, dataByte}
 use Rattle.motion.specs.Events.{Turn, quiet}
 use Rattle.pipettor.specs.declared.address.Address.{Address}
 use Rattle.pipettor.specs.declared.Controller.{Controller}
@@ -15,7 +17,8 @@ use Rattle.pipettor.specs.Address.{letterOf}
 use Rattle.pipettor.specs.Byte.{Exchange, byteOf}
 use Rattle.pipettor.specs.Listening.{beforeCr}
 use Rattle.frames.specs.Frame.{exchangeOf}
-use Rattle.demands.specs.Calls.{Call, byte, listen, tick, stop, advance, run, after}
+use Rattle.demands.specs.Calls.{lent, Call, byte, listen, tick, stop, advance, run, said, after, history, answers}
+use Rattle.demands.specs.Contracts.{Program, TakesAll, leftBy, answeredBy}
 use Rattle.demands.specs.Frames.{Treated}
 
 -- nothing; a `/`; an address, with all data bytes since
@@ -45,23 +48,22 @@ unfoldable pub handsOf : Hand → List ℕ → Hand
 handsOf h [] = h
 handsOf h (b ∷ bs) = handsOf (handOf h b) bs
 
--- after a call: "S1: answer buffer lent is shorter than 32 bytes: controller and buffer unchanged"; listening takes the bytes before a CR; no other call brings bytes
-unfoldable pub handAfter : Call → Hand → Hand
-handAfter (byte b l) h = if ltb (length (l .buffer)) 32 then h else handOf h b
-handAfter (listen bytes) h = handsOf h (beforeCr bytes)
-handAfter tick h = h
-handAfter stop h = h
-handAfter (advance n) h = h
-handAfter (run n) h = h
+-- the bytes that a call brings: "S1: answer buffer lent is shorter than 32 bytes: controller and buffer unchanged"; listening takes those before a CR
+abbrev pub broughtBy : Call → List ℕ
+broughtBy (byte b l) = if ltb (length (l .buffer)) 32 then [] else b ∷ []
+broughtBy (listen bytes) = beforeCr bytes
+broughtBy tick = []
+broughtBy stop = []
+broughtBy (advance n) = []
+broughtBy (run n) = []
 
--- after calls, first to last
-unfoldable pub handsAfter : List Call → Hand → Hand
-handsAfter [] h = h
-handsAfter (c ∷ cs) h = handsAfter cs (handAfter c h)
+-- all that calls bring, first to last, and what they leave in hand from making on
+unfoldable pub brought : List Call → List ℕ
+brought [] = []
+brought (c ∷ cs) = broughtBy c ++ brought cs
 
--- from making
-abbrev pub inHand : List Call → Hand
-inHand calls = handsAfter calls none
+unfoldable pub inHand : List Call → Hand
+inHand calls = handsOf none (brought calls)
 
 -- what is seen of one byte: the device, what is said, and the buffer; with what it adds to the history
 abbrev pub byteSeen : Controller → ℕ → List ℕ → Turn Exchange
@@ -75,6 +77,9 @@ unheeded k buf = quiet (record { device = k .device; said = Silent; buffer = buf
 
 -- A byte after any calls from making, with a buffer lent that is long enough:
 pub record Receives (a : Address) (calls : List Call) : Type 0 where
+  -- a whole frame but for its CR, to any address, is in hand whatever bytes came before it
+  pub a-frame-is-in-hand :
+      (noise ds : List ℕ) (to-whom : ℕ) → dataByte to-whom ≡ true → every dataByte ds ≡ true → brought calls ≡ noise ++ (slash ∷ to-whom ∷ ds) → inHand calls ≡ to to-whom ds
   -- a CR with a frame to us in hand: answer, buffer, device and history are those of the exchange of its data, the address and the device
   pub a-frame-that-ends-is-an-exchange :
       (ds buf : List ℕ) → inHand calls ≡ to (letterOf a) ds → 32 ≤ length buf → byteSeen (after a calls) cr buf ≡ exchangeOf ds a (after a calls .device) buf
@@ -85,3 +90,21 @@ pub record Receives (a : Address) (calls : List Call) : Type 0 where
   pub every-other-byte-is-silent :
       (b : ℕ) (buf : List ℕ) → (b ≡ cr → (ds : List ℕ) → inHand calls ≡ to (letterOf a) ds → ⊥) → 32 ≤ length buf →
       byteSeen (after a calls) b buf ≡ unheeded (after a calls) buf
+
+-- what a program makes of one byte after calls: the device it leaves, what it hands back, and the history
+abbrev pub oneByte : List Call → ℕ → List ℕ → List Call
+oneByte calls b buf = calls ++ (byte b (lent buf) ∷ [])
+
+pub record HandsBack (p : Program) (a : Address) (calls : List Call) (b : ℕ) (buf : List ℕ) (e : Turn Exchange) : Type 0 where
+  pub device : leftBy p (oneByte calls b buf) (p .fresh a) .device ≡ e .next .device
+  pub answered : answeredBy p (oneByte calls b buf) (p .fresh a) ≡ answers a calls ++ (said (e .next .said) (lent (e .next .buffer)) ∷ [])
+  pub events : history a (oneByte calls b buf) ≡ history a calls ++ e .events
+
+-- the same of a program, as far as it takes the calls
+pub record ReceivesBy (p : Program) (a : Address) (calls : List Call) : Type 0 where
+  pub a-frame-that-ends-is-an-exchange :
+      (ds buf : List ℕ) → inHand calls ≡ to (letterOf a) ds → 32 ≤ length buf → TakesAll p (oneByte calls cr buf) →
+      HandsBack p a calls cr buf (exchangeOf ds a (after a calls .device) buf)
+  pub every-other-byte-is-silent :
+      (b : ℕ) (buf : List ℕ) → (b ≡ cr → (ds : List ℕ) → inHand calls ≡ to (letterOf a) ds → ⊥) → 32 ≤ length buf → TakesAll p (oneByte calls b buf) →
+      HandsBack p a calls b buf (unheeded (after a calls) buf)
