@@ -11,7 +11,7 @@ use lib.Seq.{sets-eq, take-at, take-all, take-append-le}
 use Rattle.basics.specs.Choice.{if_then_else_}
 use Rattle.basics.specs.Bytes.{every}
 use Rattle.basics.proofs.Choice.{by}
-use Rattle.basics.proofs.Digits.{and-both}
+use Rattle.basics.proofs.Digits.{and-both, every-append}
 use Rattle.line.specs.declared.Line.{Line}
 use Rattle.line.specs.declared.Line.the-variants.{Outside, Started, Collecting}
 use Rattle.line.specs.declared.Deed.the-variants as W
@@ -19,11 +19,12 @@ use Rattle.line.specs.declared.Heard.{Heard}
 use Rattle.line.specs.Wire.{slash, cr, printable, waits, endOf, takeOf, hearOf, keepOf, Received, hears, feed, dataByte}
 use Rattle.line.proofs.Receiving.{feed-long}
 use Rattle.motion.specs.Events.{Turn}
+use Rattle.machine.specs.Refusals.{Exactly}
 use Rattle.pipettor.specs.declared.address.Address.{Address}
 use Rattle.pipettor.specs.declared.Controller.{Controller}
 use Rattle.pipettor.specs.Address.{letterOf}
 use Rattle.pipettor.specs.Byte.{After, byteOf}
-use Rattle.pipettor.specs.Listening.{beforeCr, listenedOf}
+use Rattle.pipettor.specs.Listening.{beforeCr, at, listenedOf}
 use Rattle.pipettor.specs.Controller.{madeOf, tickedOf, stoppedOf, advancedOf, runOf}
 use Rattle.pipettor.specs.Valid.{Valid}
 use Rattle.pipettor.proofs.Keeps.{Sized, made-is-valid}
@@ -34,7 +35,7 @@ use Rattle.frames.proofs.Calls.{s1-changes-nothing}
 use Rattle.demands.specs.Calls.{lent, Call, byte, listen, tick, stop, advance, run, callOf, answerOf, afterOf, eventsOf, answersOf, after, history, answers}
 use Rattle.demands.specs.Contracts.{Program, TakesAll}
 use Rattle.demands.specs.Demands.{Agrees}
-use Rattle.demands.specs.InHand.{Hand, none, begun, to, longer, handOf, handsOf, broughtBy, brought, inHand, byteSeen, unheeded, Receives, oneByte, HandsBack, ReceivesBy}
+use Rattle.demands.specs.InHand.{Hand, none, begun, to, longer, handOf, handsOf, broughtBy, brought, inHand, EndIn, byteSeen, unheeded, EndsNone, Receives, oneByte, HandsBack, ReceivesBy}
 use Rattle.demands.proofs.Frames.{an-exchange-is-treated-by-the-table}
 use Rattle.demands.proofs.Sound.{call-keeps-sized, call-keeps-valid, made-is-sized}
 use Rattle.demands.proofs.Exchanges.{after-two, answers-two, events-two, the-address-stays}
@@ -44,9 +45,6 @@ abbrev Shows : Hand → Received → Type 0
 Shows none r = r .line ≡ Outside
 Shows begun r = r .line ≡ Started
 Shows (to a ds) r = (r .line ≡ Collecting a (min 321 (length ds))) × (take (min 320 (length ds)) (r .frame) ≡ take 320 ds)
-
-abbrev at : Line → List ℕ → Received
-at l f = record { line = l; frame = f }
 
 -- one number is below another, or not
 less : {G : Type 0} (n m : ℕ) → (n < m → G) → (m ≤ n → G) → G
@@ -87,7 +85,7 @@ module _ (a b : ℕ) (ds f : List ℕ) (kept : take (min 320 (length ds)) f ≡ 
       let first : take 320 f ≡ take 320 ds = rw p at kept in
       rw (le-ltb (min 321 (length ds)) 320 m, count, q, r) (refl, first ∙ sym (take-append-le 320 ds (b ∷ []) h))
 
--- any byte
+-- a byte of a frame
 takes : (h : Hand) (l : Line) (f : List ℕ) (b : ℕ) → length f ≡ 320 → Shows h (at l f) → Shows (longer h b) (at (takeOf l b .line) (keepOf f (takeOf l b .deed) b))
 unfolding takeOf keepOf
 takes none l f b n s = rw s
@@ -100,6 +98,7 @@ ended Outside = refl
 ended Started = refl
 ended (Collecting a n) = refl
 
+-- any byte, and any bytes
 heard : (h : Hand) (r : Received) (b : ℕ) → length (r .frame) ≡ 320 → Shows h r → Shows (handOf h b) (hears r b)
 unfolding handOf hears hearOf
 heard h r b n s = go (eqb b slash) (eqb b cr) (printable b)
@@ -218,10 +217,43 @@ begins : (h : Hand) (a : ℕ) (ds : List ℕ) → dataByte a ≡ true → every 
 unfolding handsOf
 begins h a ds p q = rw (hand-slash h, hand-data begun a p) (collected a [] ds q)
 
-frame-in-hand :
-    (calls : List Call) (noise ds : List ℕ) (a : ℕ) → dataByte a ≡ true → every dataByte ds ≡ true → brought calls ≡ noise ++ (slash ∷ a ∷ ds) → inHand calls ≡ to a ds
+-- and what is in hand comes from bytes that end with it
+abbrev Stems : Hand → List ℕ → Type 0
+Stems none past = Unit {0}
+Stems begun past = (noise : List ℕ) × (past ≡ noise ++ (slash ∷ []))
+Stems (to a ds) past = EndIn a ds past
+
+stems-longer : (h : Hand) (past : List ℕ) (b : ℕ) → dataByte b ≡ true → Stems h past → Stems (longer h b) (past ++ (b ∷ []))
+unfolding every
+stems-longer none past b d s = tt
+stems-longer begun past b d s = record { noise = s .0; whole = rw (s .1) (append-assoc (s .0) (slash ∷ []) (b ∷ [])); address = d; bytes = refl }
+stems-longer (to a ds) past b d s =
+    record {
+      noise = s .noise;
+      whole = rw (s .whole) (append-assoc (s .noise) (slash ∷ a ∷ ds) (b ∷ []));
+      address = s .address;
+      bytes = every-append dataByte ds (b ∷ []) (s .bytes) (rw d refl);
+    }
+
+stems-byte : (h : Hand) (past : List ℕ) (b : ℕ) → Stems h past → Stems (handOf h b) (past ++ (b ∷ []))
+unfolding handOf dataByte
+stems-byte h past b s =
+    by (λ (x : Hand). Stems x (past ++ (b ∷ []))) (eqb b slash) (λ e. (past, ap (λ (x : ℕ). past ++ (x ∷ [])) (eqb-true b slash e))) (λ e.
+    by (λ (x : Hand). Stems x (past ++ (b ∷ []))) (eqb b cr) (λ f. tt) (λ f.
+    by (λ (x : Hand). Stems x (past ++ (b ∷ []))) (printable b) (λ p. stems-longer h past b (rw (p, e) refl) s) (λ p. tt)))
+
+stems : (h : Hand) (past bs : List ℕ) → Stems h past → Stems (handsOf h bs) (past ++ bs)
+unfolding handsOf
+stems h past [] s = rw append-nil s
+stems h past (b ∷ bs) s = rw (append-assoc past (b ∷ []) bs) at (stems (handOf h b) (past ++ (b ∷ [])) bs (stems-byte h past b s))
+
+in-hand-exactly : (calls : List Call) (a : ℕ) (ds : List ℕ) → Exactly (inHand calls ≡ to a ds) (EndIn a ds (brought calls))
 unfolding inHand
-frame-in-hand calls noise ds a p q e = rw e (hands-append none noise (slash ∷ a ∷ ds) ∙ begins (handsOf none noise) a ds p q)
+in-hand-exactly calls a ds =
+    record {
+      only = λ e. subst (λ (h : Hand). Stems h (brought calls)) e (stems none [] (brought calls) tt);
+      always = λ e. rw (e .whole) (hands-append none (e .noise) (slash ∷ a ∷ ds) ∙ begins (handsOf none (e .noise)) a ds (e .address) (e .bytes));
+    }
 
 -- one more byte
 module _ (a : Address) (calls : List Call) where
@@ -234,7 +266,7 @@ module _ (a : Address) (calls : List Call) where
       let e = ends (after a calls) ds buf long deed (holds .1) in
       rw (e .said, e .buffer, e .device, e .events, us)
 
-  silent : (b : ℕ) (buf : List ℕ) → (b ≡ cr → (ds : List ℕ) → inHand calls ≡ to (letterOf a) ds → ⊥) → 32 ≤ length buf → byteSeen (after a calls) b buf ≡ unheeded (after a calls) buf
+  silent : (b : ℕ) (buf : List ℕ) → EndsNone a calls b → 32 ≤ length buf → byteSeen (after a calls) b buf ≡ unheeded (after a calls) buf
   silent b buf but long =
       let holds = the-receiver-holds-what-is-in-hand a calls in
       let o = other (letterOf a) (inHand calls) (receiver (after a calls)) b holds but in
@@ -242,12 +274,14 @@ module _ (a : Address) (calls : List Call) where
       rw (byte-other (after a calls) b buf long p)
 
 pub every-controller-receives : (a : Address) (calls : List Call) → Receives a calls
+unfolding callOf listenedOf
 every-controller-receives a calls =
     record {
-      a-frame-is-in-hand = frame-in-hand calls;
+      a-frame-is-in-hand-where-the-bytes-end-in-it = in-hand-exactly calls;
       a-frame-that-ends-is-an-exchange = ending a calls;
       a-frame-that-ends-is-treated-by-the-table = λ ds buf hand long. rw (ending a calls ds buf hand long) (an-exchange-is-treated-by-the-table ds a (after a calls .device) buf);
       every-other-byte-is-silent = silent a calls;
+      listening-does-nothing = λ bytes. (refl, refl);
     }
 
 -- the same of a program that agrees with the definition

@@ -10,6 +10,7 @@ use Rattle.basics.specs.Choice.{if_then_else_}
 use Rattle.basics.specs.Bytes.{every}
 use Rattle.line.specs.Wire.{slash, cr, printable, dataByte}
 use Rattle.motion.specs.Events.{Turn, quiet}
+use Rattle.machine.specs.Refusals.{Exactly}
 use Rattle.pipettor.specs.declared.address.Address.{Address}
 use Rattle.pipettor.specs.declared.Controller.{Controller}
 use Rattle.pipettor.specs.declared.Said.the-variants.{Silent}
@@ -17,7 +18,7 @@ use Rattle.pipettor.specs.Address.{letterOf}
 use Rattle.pipettor.specs.Byte.{Exchange, byteOf}
 use Rattle.pipettor.specs.Listening.{beforeCr}
 use Rattle.frames.specs.Frame.{exchangeOf}
-use Rattle.demands.specs.Calls.{lent, Call, byte, listen, tick, stop, advance, run, said, after, history, answers}
+use Rattle.demands.specs.Calls.{lent, Call, byte, listen, tick, stop, advance, run, said, callOf, after, history, answers}
 use Rattle.demands.specs.Contracts.{Program, TakesAll, leftBy, answeredBy}
 use Rattle.demands.specs.Frames.{Treated}
 
@@ -65,6 +66,13 @@ brought (c ∷ cs) = broughtBy c ++ brought cs
 unfoldable pub inHand : List Call → Hand
 inHand calls = handsOf none (brought calls)
 
+-- bytes that end with a whole frame but for its CR, whatever came before it
+pub record EndIn (to-whom : ℕ) (ds bs : List ℕ) : Type 0 where
+  pub noise : List ℕ
+  pub whole : bs ≡ noise ++ (slash ∷ to-whom ∷ ds)
+  pub address : dataByte to-whom ≡ true
+  pub bytes : every dataByte ds ≡ true
+
 -- what is seen of one byte: the device, what is said, and the buffer; with what it adds to the history
 abbrev pub byteSeen : Controller → ℕ → List ℕ → Turn Exchange
 byteSeen k b buf =
@@ -75,26 +83,29 @@ byteSeen k b buf =
 abbrev pub unheeded : Controller → List ℕ → Turn Exchange
 unheeded k buf = quiet (record { device = k .device; said = Silent; buffer = buf })
 
+-- a byte that ends no frame to us: a CR with nothing, a `/` alone or a frame to another address in hand ("Any other address: silent"), and all that isn't CR
+abbrev pub EndsNone : Address → List Call → ℕ → Type 0
+EndsNone a calls b = b ≡ cr → (ds : List ℕ) → inHand calls ≡ to (letterOf a) ds → ⊥
+
 -- A byte after any calls from making, with a buffer lent that is long enough:
 pub record Receives (a : Address) (calls : List Call) : Type 0 where
-  -- a whole frame but for its CR, to any address, is in hand whatever bytes came before it
-  pub a-frame-is-in-hand :
-      (noise ds : List ℕ) (to-whom : ℕ) → dataByte to-whom ≡ true → every dataByte ds ≡ true → brought calls ≡ noise ++ (slash ∷ to-whom ∷ ds) → inHand calls ≡ to to-whom ds
+  -- what is in hand, said without the walk over the bytes: a frame is exactly where all that was brought ends with it
+  pub a-frame-is-in-hand-where-the-bytes-end-in-it : (to-whom : ℕ) (ds : List ℕ) → Exactly (inHand calls ≡ to to-whom ds) (EndIn to-whom ds (brought calls))
   -- a CR with a frame to us in hand: answer, buffer, device and history are those of the exchange of its data, the address and the device
   pub a-frame-that-ends-is-an-exchange :
       (ds buf : List ℕ) → inHand calls ≡ to (letterOf a) ds → 32 ≤ length buf → byteSeen (after a calls) cr buf ≡ exchangeOf ds a (after a calls .device) buf
   -- it gets each number exactly where 01's table gives it, and leaves what the table says
   pub a-frame-that-ends-is-treated-by-the-table :
       (ds buf : List ℕ) → inHand calls ≡ to (letterOf a) ds → 32 ≤ length buf → Treated ds a (after a calls .device) buf (byteSeen (after a calls) cr buf)
-  -- any other byte: a CR with nothing, a `/` alone or a frame to another address in hand ("Any other address: silent"), and all that isn't CR
-  pub every-other-byte-is-silent :
-      (b : ℕ) (buf : List ℕ) → (b ≡ cr → (ds : List ℕ) → inHand calls ≡ to (letterOf a) ds → ⊥) → 32 ≤ length buf →
-      byteSeen (after a calls) b buf ≡ unheeded (after a calls) buf
+  -- any other byte, and all that are listened to
+  pub every-other-byte-is-silent : (b : ℕ) (buf : List ℕ) → EndsNone a calls b → 32 ≤ length buf → byteSeen (after a calls) b buf ≡ unheeded (after a calls) buf
+  pub listening-does-nothing : (bytes : List ℕ) → (let t = callOf (listen bytes) (after a calls) in (t .next .device ≡ after a calls .device) × (t .events ≡ []))
 
--- what a program makes of one byte after calls: the device it leaves, what it hands back, and the history
+-- calls, and then one byte
 abbrev pub oneByte : List Call → ℕ → List ℕ → List Call
 oneByte calls b buf = calls ++ (byte b (lent buf) ∷ [])
 
+-- what a program makes of them: the device it leaves, what it hands back, and the history
 pub record HandsBack (p : Program) (a : Address) (calls : List Call) (b : ℕ) (buf : List ℕ) (e : Turn Exchange) : Type 0 where
   pub device : leftBy p (oneByte calls b buf) (p .fresh a) .device ≡ e .next .device
   pub answered : answeredBy p (oneByte calls b buf) (p .fresh a) ≡ answers a calls ++ (said (e .next .said) (lent (e .next .buffer)) ∷ [])
@@ -106,5 +117,5 @@ pub record ReceivesBy (p : Program) (a : Address) (calls : List Call) : Type 0 w
       (ds buf : List ℕ) → inHand calls ≡ to (letterOf a) ds → 32 ≤ length buf → TakesAll p (oneByte calls cr buf) →
       HandsBack p a calls cr buf (exchangeOf ds a (after a calls .device) buf)
   pub every-other-byte-is-silent :
-      (b : ℕ) (buf : List ℕ) → (b ≡ cr → (ds : List ℕ) → inHand calls ≡ to (letterOf a) ds → ⊥) → 32 ≤ length buf → TakesAll p (oneByte calls b buf) →
+      (b : ℕ) (buf : List ℕ) → EndsNone a calls b → 32 ≤ length buf → TakesAll p (oneByte calls b buf) →
       HandsBack p a calls b buf (unheeded (after a calls) buf)
