@@ -17,7 +17,7 @@ use Rattle.line.specs.declared.Line.the-variants.{Outside, Started, Collecting}
 use Rattle.line.specs.declared.Deed.the-variants as W
 use Rattle.line.specs.declared.Heard.{Heard}
 use Rattle.line.specs.Wire.{slash, cr, printable, waits, endOf, takeOf, hearOf, keepOf, Received, hears, feed, dataByte}
-use Rattle.line.proofs.Receiving.{feed-long}
+use Rattle.line.proofs.Receiving.{less, no-cr, feed-long}
 use Rattle.motion.specs.Events.{Turn}
 use Rattle.machine.specs.Refusals.{Exactly}
 use Rattle.pipettor.specs.declared.address.Address.{Address}
@@ -45,10 +45,6 @@ abbrev Shows : Hand → Received → Type 0
 Shows none r = r .line ≡ Outside
 Shows begun r = r .line ≡ Started
 Shows (to a ds) r = (r .line ≡ Collecting a (min 321 (length ds))) × (take (min 320 (length ds)) (r .frame) ≡ take 320 ds)
-
--- one number is below another, or not
-less : {G : Type 0} (n m : ℕ) → (n < m → G) → (m ≤ n → G) → G
-less {G} n m f g = by (λ (t : Bool). G) (ltb n m) {a = true} {b = true} (λ e. f (ltb-true n m e)) (λ e. g (ltb-false n m e))
 
 -- one more data byte: kept behind the others, or counted as one too many
 one-more : (ds f : List ℕ) (b : ℕ) → length f ≡ 320 → length ds < 320 → take (length ds) f ≡ ds → take (length ds + 1) (set f (length ds) b) ≡ ds ++ (b ∷ [])
@@ -192,10 +188,6 @@ unfolding inHand after madeOf
 the-receiver-holds-what-is-in-hand a calls = all-called calls none (madeOf a .next) (made-is-sized a) (made-is-valid a) refl
 
 -- a frame but for its CR
-no-cr : (b : ℕ) → printable b ≡ true → b ≡ cr → ⊥
-unfolding printable
-no-cr b p e = false≢true (subst (λ (x : ℕ). printable x ≡ true) e p)
-
 hand-data : (h : Hand) (b : ℕ) → dataByte b ≡ true → handOf h b ≡ longer h b
 unfolding handOf dataByte
 hand-data h b d =

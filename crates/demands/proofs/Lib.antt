@@ -11,3 +11,4 @@ pub mod Agreement
 pub mod Texts
 pub mod Volumes
 pub mod Tight
+pub mod Records

@@ -6,3 +6,4 @@ pub mod Demands
 pub mod Tight
 pub mod Script
 pub mod Texts
+pub mod Records

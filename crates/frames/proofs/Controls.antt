@@ -13,9 +13,11 @@ use Rattle.text.specs.Data.{spaceless, controlOf, dataOf, receivedOf}
 use Rattle.line.specs.declared.Report.the-variants.{Character}
 use Rattle.line.specs.Answer.{statusOf, answerOf}
 use Rattle.motion.specs.declared.Activity.the-variants.{Between}
+use Rattle.motion.specs.Events.{Turn}
 use Rattle.motion.specs.Motion.{atPlunger, resetOf}
 use Rattle.buffer.specs.declared.course.State.{State}
 use Rattle.buffer.specs.declared.course.State.the-variants.{Empty, Stored, Running, Stopped, Done}
+use Rattle.buffer.specs.declared.order.Action.{Action}
 use Rattle.buffer.specs.Course.{courseOf, noLoops}
 use Rattle.buffer.specs.Order.{cellOf, loopsBy, verdictOf}
 use Rattle.machine.specs.declared.step.Core.{Core}
@@ -23,11 +25,12 @@ use Rattle.machine.specs.declared.Device.{Device}
 use Rattle.machine.specs.Step.{core}
 use Rattle.machine.specs.Run.{readyIn, readyOf}
 use Rattle.machine.specs.Act.{haltOf, stopOf, changedOf, doneOf, coreError, actedOf, actOf}
-use Rattle.machine.proofs.Bodies.{strings-R-X-and-C-leave-the-body}
+use Rattle.machine.proofs.Bodies.{NoStop, strings-R-X-and-C-leave-the-body, strings-R-X-and-C-add-nothing-to-the-history}
 use Rattle.pipettor.specs.declared.address.Address.{Address}
 use Rattle.pipettor.specs.declared.acting.Got.the-variants as G
+use Rattle.pipettor.specs.declared.acting.Task.the-variants as T
 use Rattle.pipettor.specs.Address.{letterOf}
-use Rattle.pipettor.specs.Byte.{actionOf, stringAction, taskOf, performedOf, outcomeOf, writtenOf, dealtOf}
+use Rattle.pipettor.specs.Byte.{actionOf, stringAction, taskOf, performedOf, outcomeOf, writtenOf, Exchange, dealtOf}
 use Rattle.reports.specs.Reports.{tellOf}
 use Rattle.frames.specs.Frame.{addedOf, exchangeOf}
 
@@ -77,24 +80,38 @@ module _ (a : Address) (d : Device) (buf : List ℕ) where
   unfolding exchangeOf dealtOf receivedOf spaceless dataOf controlOf taskOf performedOf actOf cellOf loopsBy verdictOf actedOf doneOf changedOf resetOf
   reset-in-any-state = refl
 
-  -- every frame but T and !R leaves the plunger, the exact position, "initialised" and the settings alone: they change by ticks
-  dealt-leaves : (x : Data) (added : List ℕ) → (x ≡ D.Control Stop → ⊥) → (x ≡ D.Control Reset → ⊥) → dealtOf (G.Data x) added a d buf .next .device .core .body ≡ d .core .body
+  -- every frame but T and !R leaves the plunger, the exact position, "initialised" and the settings alone, and the history: they change by ticks
+  record Untouched (e : Turn Exchange) : Type 0 where
+    body : e .next .device .core .body ≡ d .core .body
+    events : e .events ≡ []
+
+  acted-leaves : (x : Action) (added : List ℕ) → NoStop x → (y : Data) → taskOf (G.Data y) ≡ T.Act x → Untouched (dealtOf (G.Data y) added a d buf)
+  unfolding dealtOf performedOf
+  acted-leaves x added h y is =
+      record { body = rw is (strings-R-X-and-C-leave-the-body x added d h); events = rw is (strings-R-X-and-C-add-nothing-to-the-history x added d h) }
+
+  dealt-leaves : (x : Data) (added : List ℕ) → (x ≡ D.Control Stop → ⊥) → (x ≡ D.Control Reset → ⊥) → Untouched (dealtOf (G.Data x) added a d buf)
   unfolding dealtOf taskOf performedOf
-  dealt-leaves (D.Report q) added p r = refl
-  dealt-leaves D.WrongReport added p r = refl
-  dealt-leaves (D.Control Run) added p r = strings-R-X-and-C-leave-the-body (actionOf Run) added d tt
-  dealt-leaves (D.Control Again) added p r = strings-R-X-and-C-leave-the-body (actionOf Again) added d tt
-  dealt-leaves (D.Control Clear) added p r = strings-R-X-and-C-leave-the-body (actionOf Clear) added d tt
+  dealt-leaves (D.Report q) added p r = record { body = refl; events = refl }
+  dealt-leaves D.WrongReport added p r = record { body = refl; events = refl }
+  dealt-leaves (D.Control Run) added p r = acted-leaves (actionOf Run) added tt _ refl
+  dealt-leaves (D.Control Again) added p r = acted-leaves (actionOf Again) added tt _ refl
+  dealt-leaves (D.Control Clear) added p r = acted-leaves (actionOf Clear) added tt _ refl
   dealt-leaves (D.Control Stop) added p r = absurd (p refl)
   dealt-leaves (D.Control Reset) added p r = absurd (r refl)
-  dealt-leaves (D.Text n true) added p r = strings-R-X-and-C-leave-the-body (stringAction true) added d tt
-  dealt-leaves (D.Text n false) added p r = strings-R-X-and-C-leave-the-body (stringAction false) added d tt
-  dealt-leaves (D.Wrong m) added p r = refl
-  dealt-leaves D.TooLong added p r = refl
+  dealt-leaves (D.Text n true) added p r = acted-leaves (stringAction true) added tt _ refl
+  dealt-leaves (D.Text n false) added p r = acted-leaves (stringAction false) added tt _ refl
+  dealt-leaves (D.Wrong m) added p r = record { body = refl; events = refl }
+  dealt-leaves D.TooLong added p r = record { body = refl; events = refl }
 
-  pub every-frame-but-T-and-reset-leaves-the-body : (ds : List ℕ) → (receivedOf ds ≡ D.Control Stop → ⊥) → (receivedOf ds ≡ D.Control Reset → ⊥) → left ds .body ≡ d .core .body
-  unfolding exchangeOf
-  every-frame-but-T-and-reset-leaves-the-body ds p r = dealt-leaves (receivedOf ds) (addedOf ds) p r
+  module _ (ds : List ℕ) (no-stop : receivedOf ds ≡ D.Control Stop → ⊥) (no-reset : receivedOf ds ≡ D.Control Reset → ⊥) where
+    pub every-frame-but-T-and-reset-leaves-the-body : left ds .body ≡ d .core .body
+    unfolding exchangeOf
+    every-frame-but-T-and-reset-leaves-the-body = dealt-leaves (receivedOf ds) (addedOf ds) no-stop no-reset .body
+
+    pub every-frame-but-T-and-reset-adds-nothing : exchangeOf ds a d buf .events ≡ []
+    unfolding exchangeOf
+    every-frame-but-T-and-reset-adds-nothing = dealt-leaves (receivedOf ds) (addedOf ds) no-stop no-reset .events
 
   -- "f the address", whatever it is
   pub f-says-the-address : exchangeOf (102 ∷ []) a d buf .next .buffer ≡ over (answerOf (statusOf (readyOf (d .core)) (d .core .course .error)) (Character (letterOf a))) 0 buf

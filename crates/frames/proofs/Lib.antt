@@ -7,3 +7,4 @@ pub mod Counts
 pub mod Texts
 pub mod Listening
 pub mod Controls
+pub mod Loops

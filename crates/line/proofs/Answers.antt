@@ -1,7 +1,7 @@
 -- Theorems: an answer fits the 32 bytes that are asked of a buffer, and what each bit of the status byte says.
 use mathlib.Core.Path.{_≡_, refl, sym, _∙_}
 use mathlib.Core.Bool.{Bool, true, false}
-use mathlib.Core.List.{List, [], _∷_}
+use mathlib.Core.List.{List, [], _∷_, _++_}
 use Prim.Native.Nat.{ℕ, zero, suc, _+_, _*_, _/_, _%_, _^_, _≤_}
 use native.Mathlib.Omega.{arith}
 use lib.ListN.{length, length-append}
@@ -72,3 +72,8 @@ ready-is = refl
 pub busy-is : statusOf false 0 ≡ 64
 unfolding statusOf
 busy-is = refl
+
+-- "Answer: `/`, `0`, status byte, data, 03h, CR, LF."
+pub the-bytes-of-an-answer : (status : ℕ) (report : Report) → answerOf status report ≡ (47 ∷ 48 ∷ status ∷ []) ++ reportOf report ++ (3 ∷ 13 ∷ 10 ∷ [])
+unfolding answerOf
+the-bytes-of-an-answer status report = refl

@@ -6,7 +6,7 @@ use Prim.Native.Nat.{ℕ, suc, _+_, _-_, _≤_, _<_, min}
 use native.Mathlib.Nat.{zero-add}
 use native.Mathlib.Numerals.{add-one}
 use native.Mathlib.Omega.{arith}
-use borrow.Author.Tests.{ltb-true, ltb-false, leb-true, ne-eqb, not-true}
+use borrow.Author.Tests.{ltb-true, ltb-false, leb-true, le-leb, ne-eqb, not-true}
 use lib.Dec.{ltb, leb, eqb}
 use lib.ListN.{length, take, drop, getD, set, length-set, length-take}
 use lib.Seq.{sets, sets-eq, take-at, take-nil, getD-set-same, getD-set-other}
@@ -31,9 +31,17 @@ hear-cr : (l : Line) → hearOf l cr ≡ endOf l
 unfolding hearOf
 hear-cr l = refl
 
-no-cr : (b : ℕ) → printable b ≡ true → b ≡ cr → ⊥
+-- "CR and 20h to 7Eh": which bytes are printable, exactly
+pub a-printable-byte-is-20h-to-7Eh : (b : ℕ) → printable b ≡ true → (32 ≤ b) × (b ≤ 126)
 unfolding printable
-no-cr b p e = omega (arith, leb-true 32 b (and-both (leb 32 b) (leb b 126) p .0))
+a-printable-byte-is-20h-to-7Eh b p = let both = and-both (leb 32 b) (leb b 126) p in (leb-true 32 b (both .0), leb-true b 126 (both .1))
+
+pub from-20h-to-7Eh-is-printable : (b : ℕ) → 32 ≤ b → b ≤ 126 → printable b ≡ true
+unfolding printable
+from-20h-to-7Eh-is-printable b h k = simp (le-leb 32 b h, le-leb b 126 k)
+
+pub no-cr : (b : ℕ) → printable b ≡ true → b ≡ cr → ⊥
+no-cr b p e = omega (arith, a-printable-byte-is-20h-to-7Eh b p .0)
 
 hear-data : (l : Line) (b : ℕ) → dataByte b ≡ true → hearOf l b ≡ takeOf l b
 unfolding hearOf dataByte
@@ -63,7 +71,7 @@ module _ (a n b : ℕ) (d : dataByte b ≡ true) where
   hears-full f h = rw (full h)
 
 -- one number is below another, or not
-less : {G : Type 0} (n m : ℕ) → (n < m → G) → (m ≤ n → G) → G
+pub less : {G : Type 0} (n m : ℕ) → (n < m → G) → (m ≤ n → G) → G
 less {G} n m f g = by (λ (t : Bool). G) (ltb n m) {a = true} {b = true} (λ e. f (ltb-true n m e)) (λ e. g (ltb-false n m e))
 
 -- data from any place of a frame on, and what they leave

@@ -9,7 +9,7 @@ use Rattle.settings.specs.declared.Range.{Range}
 use Rattle.settings.specs.declared.Volume.{Volume}
 use Rattle.settings.specs.declared.Quantity.the-variants.{Home, Increments, Nanolitres, Slope, Backlash, Compensation, Choice, Delay, Passes}
 use Rattle.settings.specs.declared.Pace.the-variants.{Top, Start, Cutoff}
-use Rattle.settings.specs.Limits.{within, rangeOf, usualOf, speedsOf, flowsOf, usualSpeed}
+use Rattle.settings.specs.Limits.{within, rangeOf, usualOf, speedsOf, flowsOf, usualSpeed, usualSettings}
 use Rattle.settings.specs.Units.{nearest, tenthsOf, flowOf, ticksOf, rateOf, millionthsOf, goalOf, nanolitresOf, goneOf}
 
 infix 68 _takes_ _refuses_ _gives_
@@ -130,6 +130,13 @@ table =
     usualSpeed Top gives 80000 ∷
     usualSpeed Start gives 10000 ∷
     usualSpeed Cutoff gives 80000 ∷
+    usualSettings .top gives 80000 ∷  -- the settings of a fresh or reset controller
+    usualSettings .start gives 10000 ∷
+    usualSettings .cutoff gives 80000 ∷
+    usualSettings .acceleration gives 20 ∷
+    usualSettings .deceleration gives 20 ∷
+    usualSettings .backlash gives 0 ∷
+    usualSettings .rate gives 40000 ∷
     ticksOf 9 gives 0 ∷  -- M9
     ticksOf 14 gives 1 ∷  -- M14
     ticksOf 15 gives 2 ∷  -- M15

@@ -1,0 +1,146 @@
+-- What each call adds to the history: `specs/Records`, proved of every controller.
+use mathlib.Core.Path.{_≡_, refl, sym, ap, _∙_}
+use mathlib.Core.Bool.{true, false, false≢true}
+use mathlib.Core.List.{List, [], _∷_}
+use Prim.Native.Nat.{ℕ}
+use native.Mathlib.Omega.{arith}
+use lib.Dec.{ltb}
+use Rattle.basics.proofs.Choice.{by}
+use Rattle.settings.specs.declared.Volume.{Volume}
+use Rattle.settings.specs.Limits.{travelMost}
+use Rattle.command.specs.declared.refusal.Refusal.{Refusal}
+use Rattle.command.specs.declared.Way.{Way}
+use Rattle.command.specs.declared.Way.the-variants.{To}
+use Rattle.command.specs.declared.Command.{Command}
+use Rattle.command.specs.declared.Command.the-variants as C
+use Rattle.text.specs.Data.{spaceless, controlOf, dataOf, receivedOf}
+use Rattle.motion.specs.declared.Activity.the-variants.{Initialising, Moving, Delaying, Between}
+use Rattle.motion.specs.declared.Target.{Target}
+use Rattle.motion.specs.declared.Target.the-variants.{At, Outside}
+use Rattle.motion.specs.Events.{start}
+use Rattle.motion.specs.Motion.{within, targetOf, eventOf, homeOf, aimed, moveOf, effectOf, onwardOf, cutOf, resetOf, freshBody}
+use Rattle.buffer.specs.declared.course.State.{State}
+use Rattle.buffer.specs.declared.course.State.the-variants.{Empty, Stored, Running, Stopped, Done}
+use Rattle.buffer.specs.Order.{cellOf, loopsBy, verdictOf}
+use Rattle.machine.specs.Step.{takenOf, carriedOn, runningOf, activeOf, stepOf, around}
+use Rattle.machine.specs.Act.{haltOf, stopOf, changedOf, doneOf, actedOf, actOf}
+use Rattle.machine.specs.Device.{freshOf, tickOf, haltedOf}
+use Rattle.machine.specs.History.{moving}
+use Rattle.machine.specs.OnCourse.{Failing, uninitialised, outside}
+use Rattle.pipettor.specs.declared.address.Address.{Address}
+use Rattle.pipettor.specs.declared.Controller.{Controller}
+use Rattle.pipettor.specs.Byte.{taskOf, performedOf, dealtOf}
+use Rattle.pipettor.specs.Controller.{madeOf, tickedOf, stoppedOf}
+use Rattle.frames.specs.Frame.{exchangeOf}
+use Rattle.frames.proofs.Controls.{every-frame-but-T-and-reset-adds-nothing}
+use Rattle.demands.specs.Calls.{eventsOf, after, history}
+use Rattle.demands.specs.Records.{Takes, asked, CarriedOut, MovesNothing, plungerAt, Records, Recording}
+
+-- a place within travel is the place asked for
+place : Target → ℕ
+place (At exact) = exact
+place Outside = 0
+
+within-is : (by-it exact : ℕ) → within by-it ≡ At exact → exact ≡ by-it
+unfolding within place
+within-is by-it exact =
+    by (λ (t : Target). t ≡ At exact → exact ≡ by-it) (ltb travelMost by-it)
+    (λ h e. let z : _≡_ {A = ℕ} 0 1 = cc in absurd (omega arith))
+    (λ h e. sym (ap place e))
+
+module _ (k : Controller) where
+  -- a tick that takes a command adds what the command adds
+  taking : (command : Command) → Takes k command → tickedOf k .events ≡ effectOf command (k .device .core .body) .events
+  unfolding tickedOf tickOf stepOf activeOf runningOf takenOf
+  taking command t = rw (t .between, t .found)
+
+  move-adds : (way : Way) (v : Volume) (c : CarriedOut k way v) → effectOf (C.Move way v) (k .device .core .body) .events ≡ eventOf way v (k .device .core .body .settings .rate) (c .exact) ∷ []
+  unfolding effectOf moveOf aimed
+  move-adds way v c = rw (c .initialised, c .within)
+
+  moving-adds : (way : Way) (v : Volume) (c : CarriedOut k way v) → tickedOf k .events ≡ eventOf way v (k .device .core .body .settings .rate) (c .exact) ∷ []
+  moving-adds way v c = taking (C.Move way v) (c .takes) ∙ move-adds way v c
+
+  to-the-place : (v : Volume) (c : CarriedOut k To v) → c .exact ≡ asked k v
+  unfolding targetOf
+  to-the-place v c = within-is (asked k v) (c .exact) (c .within)
+
+  failing-adds : (command : Command) (why : Refusal) → Failing command (k .device .core .body) why → effectOf command (k .device .core .body) .events ≡ []
+  unfolding effectOf moveOf aimed
+  failing-adds command why (uninitialised way v e i) = rw (e, i)
+  failing-adds command why (outside way v e i out) = rw (e, i, out)
+
+  others-add : (command : Command) → MovesNothing command → effectOf command (k .device .core .body) .events ≡ []
+  unfolding effectOf
+  others-add (C.Initialise speed) h = absurd h
+  others-add (C.Move way v) h = absurd h
+  others-add (C.Speed pace n) h = refl
+  others-add (C.Slopes up down) h = refl
+  others-add (C.Backlash n) h = refl
+  others-add (C.Compensate n down) h = refl
+  others-add (C.Delay ms) h = refl
+  others-add C.Open h = refl
+  others-add (C.Close n) h = refl
+
+  idle-adds : (s : State) → (s ≡ Running Between → ⊥) → activeOf s (around (k .device .text)) (k .device .core) .events ≡ []
+  unfolding activeOf runningOf carriedOn onwardOf
+  idle-adds (Running (Initialising t)) h = refl
+  idle-adds (Running (Moving t)) h = refl
+  idle-adds (Running (Delaying n)) h = refl
+  idle-adds (Running Between) h = absurd (h refl)
+  idle-adds Empty h = refl
+  idle-adds Stored h = refl
+  idle-adds Stopped h = refl
+  idle-adds Done h = refl
+
+  cut-adds : (s : State) → moving s ≡ true → haltOf s (k .device .core) .events ≡ start (plungerAt k) ∷ []
+  unfolding haltOf cutOf
+  cut-adds (Running a) h = rw h
+  cut-adds Empty h = absurd (false≢true h)
+  cut-adds Stored h = absurd (false≢true h)
+  cut-adds Stopped h = absurd (false≢true h)
+  cut-adds Done h = absurd (false≢true h)
+
+  still-adds : (s : State) → moving s ≡ false → haltOf s (k .device .core) .events ≡ []
+  unfolding haltOf cutOf
+  still-adds (Running a) h = rw h
+  still-adds Empty h = refl
+  still-adds Stored h = refl
+  still-adds Stopped h = refl
+  still-adds Done h = refl
+
+  T-adds : (buf : List ℕ) → exchangeOf (84 ∷ []) (k .address) (k .device) buf .events ≡ stoppedOf k .events
+  unfolding exchangeOf dealtOf receivedOf spaceless dataOf controlOf taskOf performedOf actOf cellOf loopsBy verdictOf actedOf doneOf changedOf stoppedOf haltedOf
+  T-adds buf = refl
+
+  reset-adds : (buf : List ℕ) → exchangeOf (33 ∷ 82 ∷ []) (k .address) (k .device) buf .events ≡ start (plungerAt k) ∷ []
+  unfolding exchangeOf dealtOf receivedOf spaceless dataOf controlOf taskOf performedOf actOf cellOf loopsBy verdictOf actedOf doneOf changedOf resetOf
+  reset-adds buf = refl
+
+  home-adds : (speed : ℕ) → effectOf (C.Initialise speed) (k .device .core .body) .events ≡ start 0 ∷ []
+  unfolding effectOf homeOf
+  home-adds speed = refl
+
+  every-controller-records : Records k
+  unfolding tickedOf tickOf stepOf stoppedOf haltedOf stopOf
+  every-controller-records = record {
+    W-starts-it-at-0 = λ speed t. taking (C.Initialise speed) t ∙ home-adds speed;
+    A-starts-it-at-the-place-asked-for = λ v c. moving-adds To v c ∙ ap (λ (e : ℕ). start e ∷ []) (to-the-place v c);
+    P-adds-its-volume = λ v c. moving-adds _ v c;
+    D-takes-its-volume-away = λ v c. moving-adds _ v c;
+    a-command-that-fails-adds-nothing = λ command why t h. taking command t ∙ failing-adds command why h;
+    any-other-command-adds-nothing = λ command t h. taking command t ∙ others-add command h;
+    a-tick-that-takes-no-command-adds-nothing = λ h. idle-adds (k .device .core .course .state) h;
+    a-cut-starts-it-at-the-plunger = λ h. cut-adds (k .device .core .course .state) h;
+    a-stop-without-movement-adds-nothing = λ h. still-adds (k .device .core .course .state) h;
+    T-stops = T-adds;
+    a-reset-starts-it-at-the-plunger = reset-adds;
+    every-other-frame-adds-nothing = λ ds buf p r. every-frame-but-T-and-reset-adds-nothing (k .address) (k .device) buf ds p r;
+  }
+
+made : (a : Address) → history a [] ≡ start 0 ∷ []
+unfolding history eventsOf madeOf freshOf freshBody
+made a = refl
+
+pub the-history-records : Recording
+the-history-records = record { making-starts-it-at-0 = made; calling = λ a calls. every-controller-records (after a calls) }

@@ -1,0 +1,86 @@
+-- 01, demand 3: what starts the history of the exact position, what adds to it, and what adds nothing, call by call.
+use Prim.Native.Nat.{ℕ, _*_}
+use mathlib.Core.Path.{_≡_}
+use mathlib.Core.Bool.{true, false}
+use mathlib.Core.List.{List, [], _∷_}
+use Rattle.settings.specs.declared.Volume.{Volume}
+use Rattle.settings.specs.Units.{millionthsOf}
+use Rattle.command.specs.declared.refusal.Refusal.{Refusal}
+use Rattle.command.specs.declared.Way.{Way}
+use Rattle.command.specs.declared.Way.the-variants.{To, Up, Down}
+use Rattle.command.specs.declared.Command.{Command}
+use Rattle.command.specs.declared.Command.the-variants as C
+use Rattle.command.specs.declared.Found.the-variants as F
+use Rattle.text.specs.declared.Control.the-variants.{Stop, Reset}
+use Rattle.text.specs.declared.Data.the-variants as D
+use Rattle.text.specs.Data.{receivedOf}
+use Rattle.motion.specs.declared.Activity.the-variants.{Between}
+use Rattle.motion.specs.declared.Target.the-variants.{At}
+use Rattle.motion.specs.Events.{start, volume}
+use Rattle.motion.specs.Motion.{targetOf}
+use Rattle.buffer.specs.declared.course.State.the-variants.{Running}
+use Rattle.machine.specs.History.{moving}
+use Rattle.machine.specs.OnCourse.{Failing}
+use Rattle.pipettor.specs.declared.address.Address.{Address}
+use Rattle.pipettor.specs.declared.Controller.{Controller}
+use Rattle.pipettor.specs.Controller.{tickedOf, stoppedOf}
+use Rattle.frames.specs.Frame.{exchangeOf}
+use Rattle.demands.specs.Calls.{Call, after, history}
+use Rattle.demands.specs.Demands.{nextCommand}
+
+-- the next tick takes a command
+pub record Takes (k : Controller) (command : Command) : Type 0 where
+  pub between : k .device .core .course .state ≡ Running Between
+  pub next : ℕ
+  pub found : nextCommand (k .device) ≡ F.Command command next
+
+-- a volume in millionths, "at the compensation then in force"
+abbrev pub asked : Controller → Volume → ℕ
+asked k v = millionthsOf v (k .device .core .body .settings .rate)
+
+-- A, P or D that can be carried out
+pub record CarriedOut (k : Controller) (way : Way) (v : Volume) : Type 0 where
+  pub takes : Takes k (C.Move way v)
+  pub initialised : k .device .core .body .initialised ≡ true
+  pub exact : ℕ
+  pub within : targetOf way (asked k v) (k .device .core .body .exact) ≡ At exact
+
+-- neither W nor A, P or D
+abbrev pub MovesNothing : Command → Type 0
+MovesNothing (C.Initialise speed) = ⊥
+MovesNothing (C.Move way v) = ⊥
+MovesNothing (C.Speed pace n) = Unit {0}
+MovesNothing (C.Slopes up down) = Unit {0}
+MovesNothing (C.Backlash n) = Unit {0}
+MovesNothing (C.Compensate n down) = Unit {0}
+MovesNothing (C.Delay ms) = Unit {0}
+MovesNothing C.Open = Unit {0}
+MovesNothing (C.Close n) = Unit {0}
+
+-- the plunger's place, in millionths
+abbrev pub plungerAt : Controller → ℕ
+plungerAt k = k .device .core .body .plunger * 1000000
+
+pub record Records (k : Controller) : Type 0 where
+  -- "A fresh controller and initialising start it at 0"
+  pub W-starts-it-at-0 : (speed : ℕ) → Takes k (C.Initialise speed) → tickedOf k .events ≡ start 0 ∷ []
+  -- "an absolute move at the exact place asked for"
+  pub A-starts-it-at-the-place-asked-for : (v : Volume) → CarriedOut k To v → tickedOf k .events ≡ start (asked k v) ∷ []
+  -- "plus all aspirations less all dispenses carried out since, each volume at the compensation then in force"
+  pub P-adds-its-volume : (v : Volume) → CarriedOut k Up v → tickedOf k .events ≡ volume v (k .device .core .body .settings .rate) true ∷ []
+  pub D-takes-its-volume-away : (v : Volume) → CarriedOut k Down v → tickedOf k .events ≡ volume v (k .device .core .body .settings .rate) false ∷ []
+  pub a-command-that-fails-adds-nothing : (command : Command) (why : Refusal) → Takes k command → Failing command (k .device .core .body) why → tickedOf k .events ≡ []
+  pub any-other-command-adds-nothing : (command : Command) → Takes k command → MovesNothing command → tickedOf k .events ≡ []
+  pub a-tick-that-takes-no-command-adds-nothing : (k .device .core .course .state ≡ Running Between → ⊥) → tickedOf k .events ≡ []
+  -- "a stop that cuts a movement or a reset at the plunger"; "T without movement doesn't touch it"
+  pub a-cut-starts-it-at-the-plunger : moving (k .device .core .course .state) ≡ true → stoppedOf k .events ≡ start (plungerAt k) ∷ []
+  pub a-stop-without-movement-adds-nothing : moving (k .device .core .course .state) ≡ false → stoppedOf k .events ≡ []
+  -- frames: T stops as the host does, !R starts it at the plunger, and no other frame adds anything
+  pub T-stops : (buf : List ℕ) → exchangeOf (84 ∷ []) (k .address) (k .device) buf .events ≡ stoppedOf k .events
+  pub a-reset-starts-it-at-the-plunger : (buf : List ℕ) → exchangeOf (33 ∷ 82 ∷ []) (k .address) (k .device) buf .events ≡ start (plungerAt k) ∷ []
+  pub every-other-frame-adds-nothing :
+      (ds buf : List ℕ) → (receivedOf ds ≡ D.Control Stop → ⊥) → (receivedOf ds ≡ D.Control Reset → ⊥) → exchangeOf ds (k .address) (k .device) buf .events ≡ []
+
+pub record Recording : Type 0 where
+  pub making-starts-it-at-0 : (a : Address) → history a [] ≡ start 0 ∷ []
+  pub calling : (a : Address) (calls : List Call) → Records (after a calls)
