@@ -30,26 +30,32 @@ module _ (p : Program) (m : Meets p) where
   call-agrees (advance n) k h t v = rw (m .advance k n h t v)
   call-agrees (run n) k h t v = rw (m .run k n h t v)
 
-  calls-agree : (cs : List Call) (k : Controller) → p .Holds k → TakesAll p cs → Sized k → Valid k → (leftBy p cs k ≡ afterOf cs k) × (answeredBy p cs k ≡ answersOf cs k)
+  calls-agree : (cs : List Call) (k : Controller) → p .Holds k → TakesAll p cs → Sized k → Valid k → (leftBy p cs k ≡ afterOf cs k) × (answeredBy p cs k ≡ answersOf cs k) × p .Holds (afterOf cs k)
   unfolding leftBy answeredBy afterOf answersOf
-  calls-agree [] k h t s v = (refl, refl)
+  calls-agree [] k h t s v = (refl, refl, h)
   calls-agree (c ∷ cs) k h t s v =
       let e = call-agrees c k h (t .0) v in
       let same : makes p c k .controller ≡ callOf c k .next = ap (λ (r : Made). r .controller) e in
-      let (left, back) = calls-agree cs (callOf c k .next) (subst (p .Holds) same (m .held c k h (t .0) v)) (t .1) (call-keeps-sized c k s v) (call-keeps-valid c k s v) in
-      (rw same left, rw e (ap (_∷_ (answerOf c k)) back))
+      let (left, back, holds) = calls-agree cs (callOf c k .next) (subst (p .Holds) same (m .held c k h (t .0) v)) (t .1) (call-keeps-sized c k s v) (call-keeps-valid c k s v) in
+      (rw same left, rw e (ap (_∷_ (answerOf c k)) back), holds)
 
 every-program-agrees : (p : Program) → Meets p → (a : Address) (calls : List Call) → TakesAll p calls → Agrees p a calls
 unfolding after answers
 every-program-agrees p m a calls takes =
     let k = madeOf a .next in
     let made = m .fresh a in
-    let (left, back) = calls-agree p m calls k (subst (p .Holds) made (m .fresh-held a)) takes (made-is-sized a) (made-is-valid a) in
-    record { premise = rw (made, left) (every-controller-is-sound a calls .valid); controller = rw made left; answered = rw made back }
+    let (left, back, holds) = calls-agree p m calls k (subst (p .Holds) made (m .fresh-held a)) takes (made-is-sized a) (made-is-valid a) in
+    record {
+      premise = rw (made, left) (every-controller-is-sound a calls .valid);
+      controller = rw made left;
+      answered = rw made back;
+      ready = rw (made, left) (m .ready (afterOf calls k) holds);
+    }
 
 pub every-program-that-meets-the-contracts-agrees : Agreement
 every-program-that-meets-the-contracts-agrees =
     record {
+      every-program-gives-addresses = λ p m n. m .given n;
       every-program-agrees = every-program-agrees;
       frames = λ a calls buf long. a-controller-hears (after a calls) (every-controller-is-sound a calls .sized .frame) buf long;
       every-program-exchanges-frames = λ p m a calls ds buf good long takes. an-agreeing-program-exchanges a calls ds buf good long p (every-program-agrees p m a (calls ++ frameAfter a calls ds buf) takes);

@@ -1,16 +1,19 @@
 -- `specs/Contracts` says what the contracts say: each is the one that the compiler reads from `pipettor/src/lib.rt`, of a method's arguments, its result and what is left of what was lent.
 use mathlib.Core.Path.{_≡_, refl}
+use mathlib.Core.Bool.{Bool}
 use mathlib.Core.List.{List}
 use Prim.Native.Nat.{ℕ}
 use contract.Lifetimes.{Lfts}
 use denote.Ref.{RefT, now}
 use Rattle.pipettor.specs.declared.address.Address.{Address}
+use Rattle.pipettor.specs.declared.address.Given.{Given}
 use Rattle.pipettor.specs.declared.Controller.{Controller}
 use Rattle.pipettor.specs.declared.Reply.{Reply}
 use Rattle.pipettor.specs.declared.Listened.{Listened}
 use Rattle.pipettor.specs.declared.Ticked.{Ticked}
 use Rattle.pipettor.specs.declared.Ran.{Ran}
 use Rattle.pipettor.specs.Valid.{Valid}
+use Rattle.pipettor.proofs.address.Address.of.Reads as Of
 use Rattle.pipettor.proofs.Controller.fresh.Reads as Fresh
 use Rattle.pipettor.proofs.Controller.byte.Reads as Byte
 use Rattle.pipettor.proofs.Controller.listen.Reads as Listen
@@ -18,10 +21,12 @@ use Rattle.pipettor.proofs.Controller.tick.Reads as Tick
 use Rattle.pipettor.proofs.Controller.stop.Reads as Stop
 use Rattle.pipettor.proofs.Controller.advance.Reads as Advance
 use Rattle.pipettor.proofs.Controller.run.Reads as Run
+use Rattle.pipettor.proofs.Controller.ready.Reads as Ready
+use Rattle.pipettor.specs.Address.{addressOf}
 use Rattle.pipettor.specs.Byte.{byteOf}
 use Rattle.pipettor.specs.Listening.{listenedOf}
-use Rattle.pipettor.specs.Controller.{madeOf, tickedOf, stoppedOf, advancedOf, runOf}
-use Rattle.demands.specs.Contracts.{Program, Meets, FreshEnsures, ByteEnsures, ListenEnsures, TickEnsures, StopEnsures, AdvanceEnsures, RunEnsures}
+use Rattle.pipettor.specs.Controller.{madeOf, tickedOf, stoppedOf, advancedOf, runOf, readyIs}
+use Rattle.demands.specs.Contracts.{Program, Meets, GivenEnsures, FreshEnsures, ByteEnsures, ListenEnsures, TickEnsures, StopEnsures, AdvanceEnsures, RunEnsures, ReadyEnsures}
 
 -- a contract's two parts: what it asks, and what it ensures
 pub record Says (asked asks ensured ensures : Type 0) : Type 1 where
@@ -29,6 +34,9 @@ pub record Says (asked asks ensured ensures : Type 0) : Type 1 where
   pub ensured-is : ensured ≡ ensures
 
 module _ (κs : Lfts 0) where
+  pub of-says : (n : ℕ) (r : Given) → Says (Of.Asked κs (n, tt)) (Unit {0}) (Of.Learnt κs (n, tt) r (n, tt)) (GivenEnsures n r)
+  of-says n r = record { asked-is = refl; ensured-is = refl }
+
   pub fresh-says : (a : Address) (r : Controller) → Says (Fresh.Asked κs (a, tt)) (Unit {0}) (Fresh.Learnt κs (a, tt) r (a, tt)) (FreshEnsures a r)
   fresh-says a r = record { asked-is = refl; ensured-is = refl }
 
@@ -44,6 +52,9 @@ module _ (κs : Lfts 0) where
 
     pub run-says : (n : ℕ) (r : Ran) → Says (Run.Asked κs (k, (n, tt))) (Valid k) (Run.Learnt κs (k, (n, tt)) r (k, (n, tt))) (RunEnsures k n r)
     run-says n r = record { asked-is = refl; ensured-is = refl }
+
+    pub ready-says : (r : Bool) → Says (Ready.Asked κs (k, tt)) (Unit {0}) (Ready.Learnt κs (k, tt) r (k, tt)) (ReadyEnsures k r)
+    ready-says r = record { asked-is = refl; ensured-is = refl }
 
 -- the buffer as it was lent, and as it is left
 pub byte-says :
@@ -63,6 +74,7 @@ defined =
     record {
       Holds = λ k. Unit {0};
       Takes = λ c. Unit {0};
+      given = addressOf;
       fresh = λ a. madeOf a .next;
       byte = λ k b l. (let r = byteOf k b (l .buffer) .next in record { reply = r .reply; left = record { buffer = r .buffer } });
       listen = listenedOf;
@@ -70,11 +82,13 @@ defined =
       stop = λ k. stoppedOf k .next;
       advance = λ k n. advancedOf n k;
       run = λ k n. runOf n k;
+      ready = readyIs;
     }
 
 pub the-contracts-can-be-met : Meets defined
 the-contracts-can-be-met =
     record {
+      given = λ n. refl;
       fresh = λ a. refl;
       byte = λ k b l h t v. refl;
       listen = λ k bytes h t. refl;
@@ -82,6 +96,7 @@ the-contracts-can-be-met =
       stop = λ k h t. refl;
       advance = λ k n h t v. refl;
       run = λ k n h t v. refl;
+      ready = λ k h. refl;
       fresh-held = λ a. tt;
       held = λ c k h t v. tt;
     }

@@ -1,21 +1,28 @@
 -- The contracts of the controller's methods, as `pipettor/src/lib.rt` states them (`proofs/Contracts` shows that they are the same), and what a program makes of calls that meets them.
 use Prim.Native.Nat.{ℕ}
 use mathlib.Core.Path.{_≡_}
+use mathlib.Core.Bool.{Bool}
 use mathlib.Core.List.{List, [], _∷_}
 use Rattle.pipettor.specs.declared.address.Address.{Address}
+use Rattle.pipettor.specs.declared.address.Given.{Given}
 use Rattle.pipettor.specs.declared.Controller.{Controller}
 use Rattle.pipettor.specs.declared.Reply.{Reply}
 use Rattle.pipettor.specs.declared.Listened.{Listened}
 use Rattle.pipettor.specs.declared.Ticked.{Ticked}
 use Rattle.pipettor.specs.declared.Ran.{Ran}
+use Rattle.pipettor.specs.Address.{addressOf}
 use Rattle.pipettor.specs.Valid.{Valid}
 use Rattle.pipettor.specs.Byte as Byte
 use Rattle.pipettor.specs.Byte.{byteOf}
 use Rattle.pipettor.specs.Listening.{listenedOf}
-use Rattle.pipettor.specs.Controller.{madeOf, tickedOf, stoppedOf, advancedOf, runOf}
+use Rattle.pipettor.specs.Controller.{madeOf, tickedOf, stoppedOf, advancedOf, runOf, readyIs}
 use Rattle.demands.specs.Calls.{Lent, Call, byte, listen, tick, stop, advance, run, Answered, said, taken, failed, used, nothing}
 
 -- what each method's `ensures` says of its result, and of the answer buffer afterwards; the one `requires` of byte, tick, advance and run is `Valid`
+-- an address of a number, or S2
+abbrev pub GivenEnsures : ℕ → Given → Type 0
+GivenEnsures n r = r ≡ addressOf n
+
 abbrev pub FreshEnsures : Address → Controller → Type 0
 FreshEnsures a r = r ≡ madeOf a .next
 
@@ -37,6 +44,9 @@ AdvanceEnsures k n r = r ≡ advancedOf n k
 abbrev pub RunEnsures : Controller → ℕ → Ran → Type 0
 RunEnsures k n r = r ≡ runOf n k
 
+abbrev pub ReadyEnsures : Controller → Bool → Type 0
+ReadyEnsures k r = r ≡ readyIs k
+
 -- what a byte's method hands back, with what was lent as it is left
 pub record Spoken : Type 0 where
   pub reply : Reply
@@ -47,6 +57,7 @@ pub record Spoken : Type 0 where
 pub record Program : Type 1 where
   pub Holds : Controller → Type 0
   pub Takes : Call → Type 0
+  pub given : ℕ → Given
   pub fresh : Address → Controller
   pub byte : Controller → ℕ → Lent → Spoken
   pub listen : Controller → List ℕ → Listened
@@ -54,6 +65,7 @@ pub record Program : Type 1 where
   pub stop : Controller → Controller
   pub advance : Controller → ℕ → Ticked
   pub run : Controller → ℕ → Ran
+  pub ready : Controller → Bool
 
 -- what it makes of a call: the controller that is left, and what is handed back
 pub record Made : Type 0 where
@@ -70,6 +82,7 @@ makes p (run n) k = let r = p .run k n in record { controller = r .ticked .contr
 
 -- it meets the contracts wherever their premise holds, and what it makes its types hold
 pub record Meets (p : Program) : Type 0 where
+  pub given : (n : ℕ) → GivenEnsures n (p .given n)
   pub fresh : (a : Address) → FreshEnsures a (p .fresh a)
   pub byte : (k : Controller) (b : ℕ) (l : Lent) → p .Holds k → p .Takes (byte b l) → Valid k → ByteEnsures k b l (p .byte k b l .reply) (p .byte k b l .left)
   pub listen : (k : Controller) (bytes : List ℕ) → p .Holds k → p .Takes (listen bytes) → ListenEnsures k bytes (p .listen k bytes)
@@ -77,6 +90,7 @@ pub record Meets (p : Program) : Type 0 where
   pub stop : (k : Controller) → p .Holds k → p .Takes stop → StopEnsures k (p .stop k)
   pub advance : (k : Controller) (n : ℕ) → p .Holds k → p .Takes (advance n) → Valid k → AdvanceEnsures k n (p .advance k n)
   pub run : (k : Controller) (n : ℕ) → p .Holds k → p .Takes (run n) → Valid k → RunEnsures k n (p .run k n)
+  pub ready : (k : Controller) → p .Holds k → ReadyEnsures k (p .ready k)
   pub fresh-held : (a : Address) → p .Holds (p .fresh a)
   pub held : (c : Call) (k : Controller) → p .Holds k → p .Takes c → Valid k → p .Holds (makes p c k .controller)
 

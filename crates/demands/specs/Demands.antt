@@ -108,8 +108,11 @@ pub record Agrees (p : Program) (a : Address) (calls : List Call) : Type 0 where
   pub premise : Valid (leftBy p calls (p .fresh a))
   pub controller : leftBy p calls (p .fresh a) ≡ after a calls
   pub answered : answeredBy p calls (p .fresh a) ≡ answers a calls
+  pub ready : p .ready (leftBy p calls (p .fresh a)) ≡ readyIs (after a calls)
 
 pub record Agreement : Type 1 where
+  -- a number that is given as an address, and S2
+  pub every-program-gives-addresses : (p : Program) → Meets p → (n : ℕ) → p .given n ≡ addressOf n
   pub every-program-agrees : (p : Program) → Meets p → (a : Address) (calls : List Call) → TakesAll p calls → Agrees p a calls
   -- what the definition makes of whole frames, and of all other bytes, needs no receiver to be said
   pub frames : (a : Address) (calls : List Call) (buf : List ℕ) → 32 ≤ length buf → Hears (after a calls) buf

@@ -8,3 +8,4 @@ pub mod Texts
 pub mod Listening
 pub mod Controls
 pub mod Loops
+pub mod Letters
