@@ -9,3 +9,4 @@ pub mod Listening
 pub mod Controls
 pub mod Loops
 pub mod Letters
+pub mod Passes

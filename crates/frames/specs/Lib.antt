@@ -2,3 +2,4 @@ pub mod Frame
 pub mod Refused
 pub mod Limits
 pub mod Listening
+pub mod Passes
