@@ -10,3 +10,4 @@ pub mod Controls
 pub mod Loops
 pub mod Letters
 pub mod Passes
+pub mod Ticks
