@@ -10,6 +10,7 @@ use lib.ListN.{length}
 use Rattle.basics.specs.Choice.{if_then_else_}
 use Rattle.basics.specs.Lay.{over}
 use Rattle.command.specs.declared.refusal.Misread.the-variants.{Letter, Operand}
+use Rattle.command.specs.Numbers.{refusalNumber}
 use Rattle.command.proofs.Numbers.{zero-is-fine, another-has-a-reason}
 use Rattle.text.specs.declared.Control.{Control}
 use Rattle.text.specs.declared.Control.the-variants.{Run, Stop, Again, Clear, Reset}
@@ -26,7 +27,7 @@ use Rattle.buffer.specs.declared.order.Action.{Action}
 use Rattle.buffer.specs.declared.order.Action.the-variants as A
 use Rattle.machine.specs.Run.{readyOf}
 use Rattle.buffer.specs.Order.{storedBy}
-use Rattle.machine.specs.Act.{actedOf, actOf}
+use Rattle.machine.specs.Act.{coreError, actedOf, actOf}
 use Rattle.machine.specs.Refusals as Buffer
 use Rattle.machine.specs.Refusals.{verdictFor, NothingToRun, run-empty, run-done, again-empty, again-stored, again-stopped, again-delaying, Exactly}
 use Rattle.machine.proofs.Refusals.{nothing-to-run-is-14, busy-or-too-long-is-15, wrong-loops-are-3, no-other-refusal}
@@ -38,7 +39,7 @@ use Rattle.pipettor.specs.declared.acting.Task.the-variants as T
 use Rattle.pipettor.specs.declared.Said.the-variants.{Answer}
 use Rattle.pipettor.specs.Byte.{toldOf, actionOf, stringAction, taskOf, performedOf, outcomeOf, toldCode, saidOf, writtenOf, Exchange, dealtOf}
 use Rattle.frames.specs.Frame.{addedOf, exchangeOf}
-use Rattle.frames.specs.Refused.{toldNumber, toldReport, numberFor, refusalOf, isReport, Replied, Refused, Unchanged, Known, WrongLetter, letter, WrongNumber, operand, report, report-number, loops-of-control, loops-of-text, TooMuchNow, too-many-bytes, control, text, NothingNow, nothing}
+use Rattle.frames.specs.Refused.{toldNumber, toldReport, numberFor, refusalOf, isReport, refusedCore, Replied, Refused, Unchanged, Known, WrongLetter, letter, WrongNumber, operand, report, report-number, loops-of-control, loops-of-text, TooMuchNow, too-many-bytes, control, text, NothingNow, nothing}
 
 -- an answered report carries the last error, and one that is refused 3
 module _ (error : ℕ) (ready : Bool) where
@@ -126,18 +127,18 @@ module _ (added : List ℕ) (a : Address) (d : Device) where
     replied D.TooLong = record { said = refl; buffer = refl }
 
     -- what is left behind
-    left-by : (x : Action) (y : Data) → isReport y ≡ false → taskOf (G.Data y) ≡ T.Act x → (Buffer.numberFor x added d ≡ 0 → ⊥) → Refused y (Buffer.numberFor x added d) d (does y)
+    left-by : (x : Action) (y : Data) → ((n : ℕ) → refusedCore y n (d .core) ≡ coreError n (d .core)) → taskOf (G.Data y) ≡ T.Act x → (Buffer.numberFor x added d ≡ 0 → ⊥) → Refused y (Buffer.numberFor x added d) d (does y)
     unfolding dealtOf performedOf actOf actedOf storedBy
-    left-by x y r is h =
+    left-by x y no-report is h =
         let (why, e) = another-has-a-reason (verdictFor x added d) h in
-        record { text = rw (is, e); core = rw (is, e, r); events = rw (is, e) }
+        record { text = rw (is, e); core = rw (is, e) (sym (no-report (refusalNumber why))); events = rw (is, e) }
 
     left : (x : Data) → (number x ≡ 0 → ⊥) → Refused x (number x) d (does x)
     unfolding dealtOf numberFor taskOf performedOf
     left (D.Report q) h = record { text = refl; core = refl; events = refl }
     left D.WrongReport h = record { text = refl; core = refl; events = refl }
-    left (D.Control c) h = left-by (actionOf c) (D.Control c) refl refl h
-    left (D.Text n run) h = left-by (stringAction run) (D.Text n run) refl refl h
+    left (D.Control c) h = left-by (actionOf c) (D.Control c) (λ n. refl) refl h
+    left (D.Text n run) h = left-by (stringAction run) (D.Text n run) (λ m. refl) refl h
     left (D.Wrong (Letter place)) h = record { text = refl; core = refl; events = refl }
     left (D.Wrong (Operand place)) h = record { text = refl; core = refl; events = refl }
     left D.TooLong h = record { text = refl; core = refl; events = refl }
