@@ -37,9 +37,9 @@ frameSeen k ds buf = seenOf (givenOf k (framed (letterOf (k .address)) ds) buf)
 -- 01's table, "Numbers that come back": a frame to us gets each exactly where the table gives it
 pub record Numbered (ds : List ℕ) (a : Address) (d : Device) : Type 0 where
   -- "command letter not allowed here"
-  pub a-wrong-letter-is-2 : Exactly (refusalOf ds a d ≡ 2) (WrongLetter (receivedOf ds))
+  pub a-wrong-letter-is-2 : Exactly (refusalOf ds a d ≡ 2) (WrongLetter ds)
   -- "operand, report number or loops wrong"
-  pub a-wrong-number-is-3 : Exactly (refusalOf ds a d ≡ 3) (WrongNumber a d (addedOf ds) (receivedOf ds))
+  pub a-wrong-number-is-3 : Exactly (refusalOf ds a d ≡ 3) (WrongNumber a d ds)
   -- "R or X with nothing to run"
   pub nothing-to-run-is-14 : Exactly (refusalOf ds a d ≡ 14) (NothingNow (d .core .course .state) (receivedOf ds))
   -- "data or text too long, or busy"

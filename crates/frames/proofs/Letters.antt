@@ -1,60 +1,30 @@
 -- Theorems: which characters an accepted string holds, and what a control that isn't alone is. 01, "Reading the data".
 use mathlib.Core.Path.{_≡_, refl, ap, _∙_}
-use mathlib.Core.Bool.{Bool, true, false, _&&_, _||_}
-use mathlib.Core.List.{List, [], _∷_}
+use mathlib.Core.Bool.{Bool, true, false, _||_}
+use mathlib.Core.List.{List, [], _∷_, _++_}
 use Prim.Native.Nat.{ℕ, _+_}
-use native.Mathlib.Omega.{arith}
 use borrow.Author.Tests.{ne-eqb}
 use lib.Dec.{eqb}
-use Rattle.basics.specs.Choice.{if_then_else_}
 use Rattle.basics.specs.Bytes.{every}
-use Rattle.basics.proofs.Choice.{by}
 use Rattle.basics.proofs.Digits.{and-both}
 use Rattle.operand.specs.declared.Class.the-variants.{Operand}
 use Rattle.operand.specs.Text.{has}
 use Rattle.command.specs.declared.refusal.Misread.the-variants as M
 use Rattle.command.specs.declared.Letter.{Letter}
 use Rattle.command.specs.declared.Letter.the-variants as L
-use Rattle.command.specs.declared.Found.{Found}
-use Rattle.command.specs.declared.Found.the-variants as F
 use Rattle.command.specs.Command.{placed, foundIn}
 use Rattle.command.specs.Table.{letterOf, commandOf}
 use Rattle.text.specs.declared.Checked.the-variants.{Fine}
 use Rattle.text.specs.declared.Data.the-variants as D
-use Rattle.text.specs.Text.{Step, Reading, reads, wrong, thenRead, verdict, readFrom, readOf, checkOf}
+use Rattle.text.specs.Text.{readFrom, readOf, checkOf}
 use Rattle.text.specs.Data.{body, stringOf, controlOf, dataOf}
 use Rattle.text.proofs.Strings.{a-text-stands-in-front}
-
-abbrev pub isAmong : ℕ → List ℕ → Bool
-isAmong b [] = false
-isAmong b (x ∷ xs) = eqb b x || isAmong b xs
-
--- "Commands: W A P D V v c L K b G g M"
-abbrev pub letters : List ℕ
-letters = 87 ∷ 65 ∷ 80 ∷ 68 ∷ 86 ∷ 118 ∷ 99 ∷ 76 ∷ 75 ∷ 98 ∷ 77 ∷ 103 ∷ 71 ∷ []
+use Rattle.frames.specs.Grammar.{isAmong, letters, Commands, none, command}
+use Rattle.frames.proofs.Grammar.{what-makes-is-listed, the-reader-keeps-to-the-grammar}
 
 -- a letter of the table, or a character of an operand text
 abbrev pub inTable : ℕ → Bool
 inTable b = has Operand b || isAmong b letters
-
-one-of : (t : Bool) (x others : Letter) (m : Bool) → ((others ≡ L.Other → ⊥) → m ≡ true) → ((if t then x else others) ≡ L.Other → ⊥) → (t || m) ≡ true
-one-of true x others m f h = refl
-one-of false x others m f h = f h
-
-among-the-letters : (b : ℕ) → (letterOf b ≡ L.Other → ⊥) → isAmong b letters ≡ true
-unfolding letterOf
-among-the-letters b h =
-    one-of (eqb b 87) _ _ _
-    (one-of (eqb b 65) _ _ _
-    (one-of (eqb b 80) _ _ _
-    (one-of (eqb b 68) _ _ _
-    (one-of (eqb b 86) _ _ _
-    (one-of (eqb b 118) _ _ _
-    (one-of (eqb b 99) _ _ _
-    (one-of (eqb b 76) _ _ _
-    (one-of (eqb b 75) _ _ _
-    (one-of (eqb b 98) _ _ _ (one-of (eqb b 77) _ _ _ (one-of (eqb b 103) _ _ _ (one-of (eqb b 71) _ _ _ (λ g. absurd (g refl))))))))))))))
-    h
 
 or-first : (x y : Bool) → x ≡ true → (x || y) ≡ true
 or-first x y e = rw e
@@ -63,43 +33,24 @@ or-second : (x y : Bool) → y ≡ true → (x || y) ≡ true
 or-second true y e = refl
 or-second false y e = e
 
--- what follows a command that reads, reads too
-rest-reads : (at : ℕ) (f : Found) (r : Reading) (steps : List Step) → thenRead at f r ≡ reads steps → (others : List Step) × (r ≡ reads others)
-rest-reads at (F.Command c next) (reads others) steps e = (others, refl)
-rest-reads at (F.Command c next) (wrong m) steps e = let z : _≡_ {A = ℕ} 0 1 = cc in absurd (omega arith)
-rest-reads at (F.Refused m) r steps e = let z : _≡_ {A = ℕ} 0 1 = cc in absurd (omega arith)
-rest-reads at F.End r steps e = (steps, e)
+operands-first : (operand rest : List ℕ) → every (has Operand) operand ≡ true → every inTable rest ≡ true → every inTable (operand ++ rest) ≡ true
+unfolding every
+operands-first [] rest h e = e
+operands-first (b ∷ t) rest h e =
+    let p = and-both (has Operand b) (every (has Operand) t) h in
+    rw (or-first (has Operand b) (isAmong b letters) (p .0), operands-first t rest (p .1) e)
 
-module _ (at b : ℕ) (t : List ℕ) (r : Reading) (steps : List Step) (e : thenRead at (foundIn at (b ∷ t)) r ≡ reads steps) where
-  another-letter-reads-not : letterOf b ≡ L.Other → ⊥
-  unfolding foundIn placed commandOf
-  another-letter-reads-not o =
-      let f : wrong (M.Letter at) ≡ reads steps = rw o at e in
-      let z : _≡_ {A = ℕ} 0 1 = cc in
-      omega arith
-
-in-the-table : (behind : Bool) (at : ℕ) (t : List ℕ) (steps : List Step) → readFrom behind at t ≡ reads steps → every inTable t ≡ true
-unfolding readFrom every
-in-the-table behind at [] steps e = refl
-in-the-table behind at (b ∷ t) steps e =
-    by (λ (r : Reading). r ≡ reads steps → (inTable b && every inTable t) ≡ true) (behind && has Operand b)
-    (λ h q. rw (or-first (has Operand b) (isAmong b letters) (and-both behind (has Operand b) h .1), in-the-table true (at + 1) t steps q))
-    (λ h q.
-    let (others, rest) = rest-reads at (foundIn at (b ∷ t)) (readFrom true (at + 1) t) steps q in
-    rw (or-second (has Operand b) (isAmong b letters) (among-the-letters b (another-letter-reads-not at b t (readFrom true (at + 1) t) steps q)), in-the-table true (at + 1) t others rest))
-    e
-
-reading : (r : Reading) → verdict r ≡ Fine → (steps : List Step) × (r ≡ reads steps)
-reading (reads steps) e = (steps, refl)
-reading (wrong m) e = let z : _≡_ {A = ℕ} 0 1 = cc in absurd (omega arith)
+in-the-table : (t : List ℕ) → Commands t → every inTable t ≡ true
+unfolding every
+in-the-table t none = refl
+in-the-table t (command letter operand rest c o m more) =
+    rw (or-second (has Operand letter) (isAmong letter letters) (what-makes-is-listed letter operand c m), operands-first operand rest (o .operands) (in-the-table rest more))
 
 -- "A letter outside the table is refused with 2, and so are .. a report or control inside, and R before the end": an accepted string holds none of them
 pub an-accepted-string-holds-letters-of-the-table-and-operands-only : (t : List ℕ) (n : ℕ) (run : Bool) → dataOf t ≡ D.Text n run → every inTable (body t) ≡ true
-unfolding checkOf readOf
 an-accepted-string-holds-letters-of-the-table-and-operands-only t n run e =
     let text = a-text-stands-in-front n run t e in
-    let (steps, is) = reading (readOf (body t)) (rw (text .front) at (text .good)) in
-    in-the-table false 0 (body t) steps is
+    in-the-table (body t) (the-reader-keeps-to-the-grammar (body t) Fine .only (rw (text .front) at (text .good)))
 
 -- a letter outside the table in front of anything: 2, at the first place
 another-letter-first-is-2 : (b c : ℕ) (t : List ℕ) → letterOf b ≡ L.Other → stringOf (b ∷ c ∷ t) ≡ D.Wrong (M.Letter 0)

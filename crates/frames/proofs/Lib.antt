@@ -7,7 +7,8 @@ pub mod Counts
 pub mod Texts
 pub mod Listening
 pub mod Controls
-pub mod Loops
 pub mod Letters
 pub mod Passes
 pub mod Ticks
+pub mod Grammar
+pub mod Strings

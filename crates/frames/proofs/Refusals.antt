@@ -9,6 +9,7 @@ use lib.Dec.{eqb}
 use lib.ListN.{length}
 use Rattle.basics.specs.Choice.{if_then_else_}
 use Rattle.basics.specs.Lay.{over}
+use Rattle.command.specs.declared.refusal.Misread.{Misread}
 use Rattle.command.specs.declared.refusal.Misread.the-variants.{Letter, Operand}
 use Rattle.command.specs.Numbers.{refusalNumber}
 use Rattle.command.proofs.Numbers.{zero-is-fine, another-has-a-reason}
@@ -39,7 +40,9 @@ use Rattle.pipettor.specs.declared.acting.Task.the-variants as T
 use Rattle.pipettor.specs.declared.Said.the-variants.{Answer}
 use Rattle.pipettor.specs.Byte.{toldOf, actionOf, stringAction, taskOf, performedOf, outcomeOf, toldCode, saidOf, writtenOf, Exchange, dealtOf}
 use Rattle.frames.specs.Frame.{addedOf, exchangeOf}
-use Rattle.frames.specs.Refused.{toldNumber, toldReport, numberFor, refusalOf, isReport, refusedCore, Replied, Refused, Unchanged, Known, WrongLetter, letter, WrongNumber, operand, report, report-number, loops-of-control, loops-of-text, TooMuchNow, too-many-bytes, control, text, NothingNow, nothing}
+use Rattle.frames.proofs.Strings as Strings
+use Rattle.frames.proofs.Strings.{a-string-is-refused-exactly-at-its-first-wrong-place}
+use Rattle.frames.specs.Refused.{toldNumber, toldReport, numberFor, refusalOf, isReport, refusedCore, Replied, Refused, Unchanged, Known, WrongLetter, WrongNumber, operand, report, report-number, loops-of-control, loops-of-text, TooMuchNow, too-many-bytes, control, text, NothingNow, nothing}
 
 -- an answered report carries the last error, and one that is refused 3
 module _ (error : ℕ) (ready : Bool) where
@@ -167,38 +170,6 @@ module _ (added : List ℕ) (a : Address) (d : Device) where
     cleared D.TooLong h e = absurd (omega arith)
 
   -- which number
-  only-2 : (x : Data) → number x ≡ 2 → WrongLetter x
-  unfolding numberFor
-  only-2 (D.Report q) e = not-told 2 (toldOf q a (d .core)) e (λ h. omega arith) (λ h. omega arith)
-  only-2 D.WrongReport e = absurd (omega arith)
-  only-2 (D.Control c) e = never-2 added d (actionOf c) e
-  only-2 (D.Text n run) e = never-2 added d (stringAction run) e
-  only-2 (D.Wrong (Letter place)) e = letter place
-  only-2 (D.Wrong (Operand place)) e = absurd (omega arith)
-  only-2 D.TooLong e = absurd (omega arith)
-
-  always-2 : (x : Data) → WrongLetter x → number x ≡ 2
-  unfolding numberFor
-  always-2 x (letter place) = refl
-
-  only-3 : (x : Data) → number x ≡ 3 → WrongNumber a d added x
-  unfolding numberFor
-  only-3 (D.Report q) e = report-number q (refused-3 (toldOf q a (d .core)) e)
-  only-3 D.WrongReport e = report
-  only-3 (D.Control c) e = loops-of-control c (wrong-loops-are-3 (actionOf c) added d .only e)
-  only-3 (D.Text n run) e = loops-of-text n run (wrong-loops-are-3 (stringAction run) added d .only e)
-  only-3 (D.Wrong (Letter place)) e = absurd (omega arith)
-  only-3 (D.Wrong (Operand place)) e = operand place
-  only-3 D.TooLong e = absurd (omega arith)
-
-  always-3 : (x : Data) → WrongNumber a d added x → number x ≡ 3
-  unfolding numberFor
-  always-3 x (operand place) = refl
-  always-3 x report = refl
-  always-3 x (report-number q h) = rw h
-  always-3 x (loops-of-control c h) = wrong-loops-are-3 (actionOf c) added d .always h
-  always-3 x (loops-of-text n run h) = wrong-loops-are-3 (stringAction run) added d .always h
-
   only-14 : (x : Data) → number x ≡ 14 → NothingNow (d .core .course .state) x
   unfolding numberFor
   only-14 (D.Report q) e = not-told 14 (toldOf q a (d .core)) e (λ h. omega arith) (λ h. omega arith)
@@ -239,16 +210,56 @@ module _ (added : List ℕ) (a : Address) (d : Device) where
   known (D.Wrong (Operand place)) = inr (inr (inl refl))
   known D.TooLong = inr (inr (inr (inr refl)))
 
+-- 2 and 3, of the bytes received
+module _ (ds : List ℕ) (a : Address) (d : Device) where
+  abbrev gets : Data → ℕ
+  gets x = numberFor x (addedOf ds) a d
+
+  refused-as : (m : Misread) → receivedOf ds ≡ D.Wrong m → Strings.Refused ds m
+  refused-as m = a-string-is-refused-exactly-at-its-first-wrong-place ds m .only
+
+  only-2 : (x : Data) → receivedOf ds ≡ x → gets x ≡ 2 → WrongLetter ds
+  unfolding numberFor
+  only-2 (D.Report q) is e = not-told 2 (toldOf q a (d .core)) e (λ h. omega arith) (λ h. omega arith)
+  only-2 D.WrongReport is e = absurd (omega arith)
+  only-2 (D.Control c) is e = never-2 (addedOf ds) d (actionOf c) e
+  only-2 (D.Text n run) is e = never-2 (addedOf ds) d (stringAction run) e
+  only-2 (D.Wrong (Letter place)) is e = let r = refused-as (Letter place) is in record { string = r .string; place = place; letter = r .judged }
+  only-2 (D.Wrong (Operand place)) is e = absurd (omega arith)
+  only-2 D.TooLong is e = absurd (omega arith)
+
+  only-3 : (x : Data) → receivedOf ds ≡ x → gets x ≡ 3 → WrongNumber a d ds
+  unfolding numberFor
+  only-3 (D.Report q) is e = report-number q is (refused-3 (toldOf q a (d .core)) e)
+  only-3 D.WrongReport is e = report is
+  only-3 (D.Control c) is e = loops-of-control c is (wrong-loops-are-3 (actionOf c) (addedOf ds) d .only e)
+  only-3 (D.Text n run) is e = loops-of-text n run is (wrong-loops-are-3 (stringAction run) (addedOf ds) d .only e)
+  only-3 (D.Wrong (Letter place)) is e = absurd (omega arith)
+  only-3 (D.Wrong (Operand place)) is e = let r = refused-as (Operand place) is in operand (r .string) place (r .judged)
+  only-3 D.TooLong is e = absurd (omega arith)
+
+  always-3 : WrongNumber a d ds → gets (receivedOf ds) ≡ 3
+  unfolding numberFor
+  always-3 (operand string place judged) = rw (a-string-is-refused-exactly-at-its-first-wrong-place ds (Operand place) .always (record { string = string; judged = judged }))
+  always-3 (report is) = rw is
+  always-3 (report-number q is h) = rw (is, h)
+  always-3 (loops-of-control c is h) = rw is (wrong-loops-are-3 (actionOf c) (addedOf ds) d .always h)
+  always-3 (loops-of-text n run is h) = rw is (wrong-loops-are-3 (stringAction run) (addedOf ds) d .always h)
+
 -- A frame to us with these data.
 module _ (ds : List ℕ) (a : Address) (d : Device) where
   -- 2, 3, 14 and 15, each exactly where the table says
-  pub a-wrong-letter-is-2 : Exactly (refusalOf ds a d ≡ 2) (WrongLetter (receivedOf ds))
-  unfolding refusalOf
-  a-wrong-letter-is-2 = record { only = only-2 (addedOf ds) a d (receivedOf ds); always = always-2 (addedOf ds) a d (receivedOf ds) }
+  pub a-wrong-letter-is-2 : Exactly (refusalOf ds a d ≡ 2) (WrongLetter ds)
+  unfolding refusalOf numberFor
+  a-wrong-letter-is-2 =
+      record {
+        only = only-2 ds a d (receivedOf ds) refl;
+        always = λ w. rw (a-string-is-refused-exactly-at-its-first-wrong-place ds (Letter (w .place)) .always (record { string = w .string; judged = w .letter }));
+      }
 
-  pub a-wrong-number-is-3 : Exactly (refusalOf ds a d ≡ 3) (WrongNumber a d (addedOf ds) (receivedOf ds))
+  pub a-wrong-number-is-3 : Exactly (refusalOf ds a d ≡ 3) (WrongNumber a d ds)
   unfolding refusalOf
-  a-wrong-number-is-3 = record { only = only-3 (addedOf ds) a d (receivedOf ds); always = always-3 (addedOf ds) a d (receivedOf ds) }
+  a-wrong-number-is-3 = record { only = only-3 ds a d (receivedOf ds) refl; always = always-3 ds a d }
 
   pub nothing-to-run-now-is-14 : Exactly (refusalOf ds a d ≡ 14) (NothingNow (d .core .course .state) (receivedOf ds))
   unfolding refusalOf

@@ -3,3 +3,4 @@ pub mod Refused
 pub mod Limits
 pub mod Listening
 pub mod Passes
+pub mod Grammar

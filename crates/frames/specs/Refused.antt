@@ -1,5 +1,5 @@
 -- 01, "Numbers that come back": the number each frame to us gets, and where it gets it.
-use Prim.Native.Nat.{ℕ}
+use Prim.Native.Nat.{ℕ, _≤_}
 use mathlib.Core.Path.{_≡_}
 use mathlib.Core.Logic.{_⊎_}
 use mathlib.Core.Bool.{Bool, true, false, _&&_, _||_}
@@ -8,14 +8,13 @@ use lib.Dec.{eqb}
 use lib.ListN.{length}
 use Rattle.basics.specs.Choice.{if_then_else_}
 use Rattle.basics.specs.Lay.{over}
-use Rattle.command.specs.declared.refusal.Misread.the-variants.{Letter, Operand}
 use Rattle.command.specs.declared.refusal.Refusal.the-variants as R
 use Rattle.command.specs.Numbers.{refusalNumber}
 use Rattle.text.specs.declared.Question.{Question}
 use Rattle.text.specs.declared.Control.{Control}
 use Rattle.text.specs.declared.Data.{Data}
 use Rattle.text.specs.declared.Data.the-variants as D
-use Rattle.text.specs.Data.{receivedOf}
+use Rattle.text.specs.Data.{spaceless, body, receivedOf}
 use Rattle.line.specs.declared.Report.{Report}
 use Rattle.line.specs.declared.Report.the-variants.{Nothing}
 use Rattle.line.specs.Answer.{statusOf, answerOf}
@@ -34,6 +33,7 @@ use Rattle.reports.specs.declared.Told.the-variants.{Says, No}
 use Rattle.pipettor.specs.declared.Said.the-variants.{Answer}
 use Rattle.pipettor.specs.Byte.{toldOf, actionOf, stringAction, Exchange}
 use Rattle.frames.specs.Frame.{addedOf}
+use Rattle.frames.specs.Grammar.{LetterAt, OperandAt}
 
 -- "Reports never change it; a refused report answers its own code 3 and changes nothing."
 abbrev pub toldNumber : Told → ℕ
@@ -111,19 +111,38 @@ pub record Unchanged (d : Device) (e : Turn Exchange) : Type 0 where
   pub device : e .next .device ≡ d
   pub events : e .events ≡ []
 
--- 2: "command letter not allowed here": the first wrong place is a letter
-pub data WrongLetter : Data → Type 0 where
-  letter : (place : ℕ) → WrongLetter (D.Wrong (Letter place))
+-- "Exactly R, T, X, C, !R: a control."
+abbrev pub controlAlone : List ℕ → Bool
+controlAlone [] = false
+controlAlone (b ∷ []) = eqb b 82 || eqb b 84 || eqb b 88 || eqb b 67
+controlAlone (b ∷ c ∷ []) = eqb b 33 && eqb c 82
+controlAlone (b ∷ c ∷ d ∷ t) = false
+
+-- data that are read as a string: not too many, no report and no control
+pub record IsString (ds : List ℕ) : Type 0 where
+  pub short : length ds ≤ 320
+  pub no-report : reportFirst (spaceless ds) ≡ false
+  pub no-control : controlAlone (spaceless ds) ≡ false
+
+-- what is read of it: "commands, then an optional final R"
+abbrev pub textIn : List ℕ → List ℕ
+textIn ds = body (spaceless ds)
+
+-- 2: "command letter not allowed here": the string is commands up to a letter outside the table
+pub record WrongLetter (ds : List ℕ) : Type 0 where
+  pub string : IsString ds
+  pub place : ℕ
+  pub letter : LetterAt (textIn ds) place
+
+-- 3: "operand, report number or loops wrong": the string is commands up to a letter whose operand text it doesn't take; a report that asks for what there isn't; or a text that is to run and has no tree of loops
+pub data WrongNumber (a : Address) (d : Device) (ds : List ℕ) : Type 0 where
+  operand : IsString ds → (place : ℕ) → OperandAt (textIn ds) place → WrongNumber a d ds
+  report : receivedOf ds ≡ D.WrongReport → WrongNumber a d ds
+  report-number : (q : Question) → receivedOf ds ≡ D.Report q → toldOf q a (d .core) ≡ No → WrongNumber a d ds
+  loops-of-control : (c : Control) → receivedOf ds ≡ D.Control c → WrongLoops (actionOf c) (d .core .course .state) (storedIn d) (addedOf ds) → WrongNumber a d ds
+  loops-of-text : (n : ℕ) (run : Bool) → receivedOf ds ≡ D.Text n run → WrongLoops (stringAction run) (d .core .course .state) (storedIn d) (addedOf ds) → WrongNumber a d ds
 
 module _ (a : Address) (d : Device) (added : List ℕ) where
-  -- 3: "operand, report number or loops wrong"
-  pub data WrongNumber : Data → Type 0 where
-    operand : (place : ℕ) → WrongNumber (D.Wrong (Operand place))
-    report : WrongNumber D.WrongReport
-    report-number : (q : Question) → toldOf q a (d .core) ≡ No → WrongNumber (D.Report q)
-    loops-of-control : (c : Control) → WrongLoops (actionOf c) (d .core .course .state) (storedIn d) added → WrongNumber (D.Control c)
-    loops-of-text : (n : ℕ) (run : Bool) → WrongLoops (stringAction run) (d .core .course .state) (storedIn d) added → WrongNumber (D.Text n run)
-
   -- 15: "data or text too long, or busy"
   pub data TooMuchNow : Data → Type 0 where
     too-many-bytes : TooMuchNow D.TooLong

@@ -1,33 +1,36 @@
 -- Theorems: each refusal is given exactly where 01's table says, and changes nothing but the last error.
-use mathlib.Core.Path.{_≡_, refl, sym, _∙_}
+use mathlib.Core.Path.{_≡_, refl, sym}
 use mathlib.Core.Logic.{_⊎_, inl, inr}
-use mathlib.Core.Bool.{Bool, true, false, false≢true}
-use mathlib.Core.List.{List, []}
+use mathlib.Core.Bool.{Bool, true, false, true≢false, false≢true}
+use mathlib.Core.List.{List, [], _++_}
 use Prim.Native.Nat.{ℕ, _≤_, _<_}
 use native.Mathlib.Omega.{arith}
 use borrow.Author.Tests.{ltb-true, ltb-false, lt-ltb, le-ltb}
 use lib.Dec.{ltb}
-use lib.ListN.{length}
+use lib.ListN.{length, take}
 use Rattle.basics.specs.Choice.{if_then_else_}
 use Rattle.command.specs.declared.refusal.Refusal.{Refusal}
 use Rattle.command.specs.declared.refusal.Refusal.the-variants as R
 use Rattle.command.specs.declared.refusal.Verdict.{Verdict}
 use Rattle.command.specs.declared.refusal.Verdict.the-variants.{Fine, Refused}
 use Rattle.command.specs.Numbers.{refusalNumber, verdictNumber}
-use Rattle.buffer.specs.declared.course.State.{State}
+use Rattle.text.specs.Text.{Reading, reads, wrong, readOf}
+use Rattle.text.specs.Loops.{loopsOk, loopsIn}
+use Rattle.text.proofs.Trees.{every-tree-is-accepted, what-is-accepted-is-a-tree}
 use Rattle.buffer.specs.declared.course.Column.{Column}
 use Rattle.buffer.specs.declared.course.Column.the-variants as K
 use Rattle.buffer.specs.declared.order.Action.{Action}
 use Rattle.buffer.specs.declared.order.Action.the-variants as A
 use Rattle.buffer.specs.declared.order.Loading.{Loading}
 use Rattle.buffer.specs.declared.order.Change.{Change}
+use Rattle.buffer.specs.declared.order.Change.the-variants.{Begin, Resume, EndDelay, Repeat, Erase, Halt, Reset}
 use Rattle.buffer.specs.declared.order.Order.{Order}
 use Rattle.buffer.specs.declared.order.Order.the-variants as O
 use Rattle.buffer.specs.Course.{columnOf}
-use Rattle.buffer.specs.Order.{cellOf, orderOf, lengthBy, loopsBy, sized, verdictOf, storedBy}
+use Rattle.buffer.specs.Order.{cellOf, keptOf, lengthBy, loopsBy, sized, verdictOf, storedBy}
 use Rattle.machine.specs.declared.Device.{Device}
 use Rattle.machine.specs.Act.{coreError, actedOf, acted, actOf}
-use Rattle.machine.specs.Refusals.{storedIn, verdictFor, numberFor, NothingToRun, run-empty, run-done, again-empty, again-stored, again-stopped, again-delaying, Busy, store, store-delaying, clear, clear-delaying, launch, run, again, TooMuch, busy, long, WrongLoops, Exactly}
+use Rattle.machine.specs.Refusals.{storedIn, verdictFor, numberFor, NothingToRun, run-empty, run-done, again-empty, again-stored, again-stopped, again-delaying, Busy, store, store-delaying, clear, clear-delaying, launch, run, again, TooMuch, busy, long, Treeless, Tree, WrongLoops, Exactly}
 
 -- "a refusal changes nothing but the last error"
 module _ (a : Action) (added : List ℕ) (d : Device) (why : Refusal) (refused : verdictFor a added d ≡ Refused why) where
@@ -86,13 +89,13 @@ data Told (a : Action) (k : Column) (o : Order) (stored added : List ℕ) : Verd
   nothing : NothingToRun a k → Told a k o stored added (Refused R.NothingToRun)
   at-work : Busy a k → Told a k o stored added (Refused R.Busy)
   too-long : 256 < lengthBy o (length stored) (length added) → Told a k o stored added (Refused R.TooLong)
-  wrong : lengthBy o (length stored) (length added) ≤ 256 → loopsBy o stored added ≡ false → Told a k o stored added (Refused R.Loops)
+  loops : lengthBy o (length stored) (length added) ≤ 256 → loopsBy o stored added ≡ false → Told a k o stored added (Refused R.Loops)
   fine : lengthBy o (length stored) (length added) ≤ 256 → loopsBy o stored added ≡ true → Told a k o stored added Fine
 
 module _ (a : Action) (k : Column) (stored added : List ℕ) where
   told-loops : (o : Order) (b : Bool) → loopsBy o stored added ≡ b → lengthBy o (length stored) (length added) ≤ 256 → Told a k o stored added (if b then Fine else Refused R.Loops)
   told-loops o true e h = fine h e
-  told-loops o false e h = wrong h e
+  told-loops o false e h = loops h e
 
   told-sized : (o : Order) → Told a k o stored added (sized (lengthBy o (length stored) (length added)) (loopsBy o stored added))
   unfolding sized
@@ -115,35 +118,35 @@ module _ (a : Action) (k : Column) (stored added : List ℕ) where
     only-14 v (nothing h) e = h
     only-14 v (at-work h) e = absurd (omega arith)
     only-14 v (too-long h) e = absurd (omega arith)
-    only-14 v (wrong h w) e = absurd (omega arith)
+    only-14 v (loops h w) e = absurd (omega arith)
     only-14 v (fine h w) e = absurd (omega arith)
 
     only-15 : (v : Verdict) → Told a k o stored added v → verdictNumber v ≡ 15 → Busy a k ⊎ (256 < lengthBy o (length stored) (length added))
     only-15 v (nothing h) e = absurd (omega arith)
     only-15 v (at-work h) e = inl h
     only-15 v (too-long h) e = inr h
-    only-15 v (wrong h w) e = absurd (omega arith)
+    only-15 v (loops h w) e = absurd (omega arith)
     only-15 v (fine h w) e = absurd (omega arith)
 
     only-3 : (v : Verdict) → Told a k o stored added v → verdictNumber v ≡ 3 → (lengthBy o (length stored) (length added) ≤ 256) × (loopsBy o stored added ≡ false)
     only-3 v (nothing h) e = absurd (omega arith)
     only-3 v (at-work h) e = absurd (omega arith)
     only-3 v (too-long h) e = absurd (omega arith)
-    only-3 v (wrong h w) e = (h, w)
+    only-3 v (loops h w) e = (h, w)
     only-3 v (fine h w) e = absurd (omega arith)
 
     only-0 : (v : Verdict) → Told a k o stored added v → v ≡ Fine → (lengthBy o (length stored) (length added) ≤ 256) × (loopsBy o stored added ≡ true)
     only-0 v (nothing h) e = let z : _≡_ {A = ℕ} 0 1 = cc in absurd (omega arith)
     only-0 v (at-work h) e = let z : _≡_ {A = ℕ} 0 1 = cc in absurd (omega arith)
     only-0 v (too-long h) e = let z : _≡_ {A = ℕ} 0 1 = cc in absurd (omega arith)
-    only-0 v (wrong h w) e = let z : _≡_ {A = ℕ} 0 1 = cc in absurd (omega arith)
+    only-0 v (loops h w) e = let z : _≡_ {A = ℕ} 0 1 = cc in absurd (omega arith)
     only-0 v (fine h w) e = (h, w)
 
     known : (v : Verdict) → Told a k o stored added v → (verdictNumber v ≡ 0) ⊎ (verdictNumber v ≡ 3) ⊎ (verdictNumber v ≡ 14) ⊎ (verdictNumber v ≡ 15)
     known v (nothing h) = inr (inr (inl refl))
     known v (at-work h) = inr (inr (inr refl))
     known v (too-long h) = inr (inr (inr refl))
-    known v (wrong h w) = inr (inl refl)
+    known v (loops h w) = inr (inl refl)
     known v (fine h w) = inl refl
 
   -- and always with it
@@ -178,6 +181,32 @@ busy-always a k stored added launch = refl
 busy-always a k stored added run = refl
 busy-always a k stored added again = refl
 
+-- loops are wrong exactly without a tree
+no-tree : {A : Type 0} (t : Bool) → (t ≡ true → A) → (A → t ≡ true) → Exactly (t ≡ false) (A → ⊥)
+no-tree true there back = record { only = λ e h. true≢false e; always = λ h. absurd (h (there refl)) }
+no-tree false there back = record { only = λ e h. false≢true (back h); always = λ h. refl }
+
+loops-without-a-tree : (x y : Reading) → Exactly (loopsIn x y ≡ false) (Tree x y → ⊥)
+loops-without-a-tree (reads a) (reads b) = no-tree (loopsOk (a ++ b)) (what-is-accepted-is-a-tree (a ++ b)) (every-tree-is-accepted (a ++ b))
+loops-without-a-tree (reads a) (wrong r) = record { only = λ e h. h; always = λ h. refl }
+loops-without-a-tree (wrong r) y = record { only = λ e h. h; always = λ h. refl }
+
+never : Exactly (true ≡ false) ⊥
+never = record { only = λ e. true≢false e; always = λ h. absurd h }
+
+wrong-without-a-tree : (o : Order) (stored added : List ℕ) → Exactly (loopsBy o stored added ≡ false) (Treeless o stored added)
+unfolding loopsBy
+wrong-without-a-tree (O.Load loading true) stored added = loops-without-a-tree (readOf (take (keptOf loading (length stored)) stored)) (readOf added)
+wrong-without-a-tree (O.Load loading false) stored added = never
+wrong-without-a-tree (O.Change Begin) stored added = loops-without-a-tree (readOf stored) (readOf [])
+wrong-without-a-tree (O.Change Resume) stored added = never
+wrong-without-a-tree (O.Change EndDelay) stored added = never
+wrong-without-a-tree (O.Change Repeat) stored added = never
+wrong-without-a-tree (O.Change Erase) stored added = never
+wrong-without-a-tree (O.Change Halt) stored added = never
+wrong-without-a-tree (O.Change Reset) stored added = never
+wrong-without-a-tree (O.Refuse why) stored added = never
+
 -- "14", "15" and "3", each exactly where the table says
 module _ (a : Action) (added : List ℕ) (d : Device) where
   abbrev column : Column
@@ -185,6 +214,9 @@ module _ (a : Action) (added : List ℕ) (d : Device) where
 
   answered : Told a column (cellOf a column) (storedIn d) added (verdictFor a added d)
   answered = told a column (storedIn d) added (cellOf a column) (cell a column)
+
+  treeless : Exactly (loopsBy (cellOf a column) (storedIn d) added ≡ false) (Treeless (cellOf a column) (storedIn d) added)
+  treeless = wrong-without-a-tree (cellOf a column) (storedIn d) added
 
   pub nothing-to-run-is-14 : Exactly (numberFor a added d ≡ 14) (NothingToRun a column)
   nothing-to-run-is-14 =
@@ -207,8 +239,8 @@ module _ (a : Action) (added : List ℕ) (d : Device) where
   pub wrong-loops-are-3 : Exactly (numberFor a added d ≡ 3) (WrongLoops a (d .core .course .state) (storedIn d) added)
   wrong-loops-are-3 =
       record {
-        only = λ e. let w = only-3 a column (storedIn d) added (cellOf a column) (verdictFor a added d) answered e in record { fits = w .0; wrong = w .1 };
-        always = λ w. rw (wrong-always a column (storedIn d) added (cellOf a column) (w .fits) (w .wrong));
+        only = λ e. let w = only-3 a column (storedIn d) added (cellOf a column) (verdictFor a added d) answered e in record { fits = w .0; wrong = treeless .only (w .1) };
+        always = λ w. rw (wrong-always a column (storedIn d) added (cellOf a column) (w .fits) (treeless .always (w .wrong)));
       }
 
   -- and what is accepted fits, and its loops are right

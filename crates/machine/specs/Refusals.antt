@@ -1,18 +1,22 @@
 -- 01, "The buffer": which cells of the table refuse with which number, told apart from what the others do.
 use Prim.Native.Nat.{ℕ, _≤_, _<_}
-use mathlib.Core.Path.{_≡_}
-use mathlib.Core.Bool.{false}
-use mathlib.Core.List.{List}
+use mathlib.Core.Bool.{true, false}
+use mathlib.Core.List.{List, [], _++_}
 use lib.ListN.{length, take}
 use Rattle.command.specs.declared.refusal.Verdict.{Verdict}
 use Rattle.command.specs.Numbers.{verdictNumber}
+use Rattle.text.specs.Text.{Reading, reads, wrong, readOf}
+use Rattle.text.specs.Loops.{Accepted}
 use Rattle.buffer.specs.declared.course.State.{State}
 use Rattle.buffer.specs.declared.course.Column.{Column}
 use Rattle.buffer.specs.declared.course.Column.the-variants as K
 use Rattle.buffer.specs.declared.order.Action.{Action}
 use Rattle.buffer.specs.declared.order.Action.the-variants as A
 use Rattle.buffer.specs.Course.{columnOf}
-use Rattle.buffer.specs.Order.{orderOf, lengthBy, loopsBy, verdictOf}
+use Rattle.buffer.specs.declared.order.Change.the-variants.{Begin, Resume, EndDelay, Repeat, Erase, Halt, Reset}
+use Rattle.buffer.specs.declared.order.Order.{Order}
+use Rattle.buffer.specs.declared.order.Order.the-variants.{Refuse, Load, Change}
+use Rattle.buffer.specs.Order.{orderOf, keptOf, lengthBy, verdictOf}
 use Rattle.machine.specs.declared.Device.{Device}
 
 -- what stands in the text's array: the stored text
@@ -50,10 +54,29 @@ pub data TooMuch (a : Action) (s : State) (stored added : List ℕ) : Type 0 whe
   busy : Busy a (columnOf s) → TooMuch a s stored added
   long : 256 < lengthBy (orderOf a s) (length stored) (length added) → TooMuch a s stored added
 
+-- a tree of loops, of a text in two parts: what was stored and what is joined behind it
+abbrev pub Tree : Reading → Reading → Type 0
+Tree (reads a) (reads b) = Accepted (a ++ b)
+Tree (reads a) (wrong r) = ⊥
+Tree (wrong r) b = ⊥
+
+-- the text that an order runs for the first time has no tree: a g left open, a G without an open g, or loops more than 4 deep
+abbrev pub Treeless : Order → List ℕ → List ℕ → Type 0
+Treeless (Load loading true) stored added = Tree (readOf (take (keptOf loading (length stored)) stored)) (readOf added) → ⊥
+Treeless (Load loading false) stored added = ⊥
+Treeless (Change Begin) stored added = Tree (readOf stored) (readOf []) → ⊥
+Treeless (Change Resume) stored added = ⊥
+Treeless (Change EndDelay) stored added = ⊥
+Treeless (Change Repeat) stored added = ⊥
+Treeless (Change Erase) stored added = ⊥
+Treeless (Change Halt) stored added = ⊥
+Treeless (Change Reset) stored added = ⊥
+Treeless (Refuse why) stored added = ⊥
+
 -- 3: the text fits, and its loops are wrong
 pub record WrongLoops (a : Action) (s : State) (stored added : List ℕ) : Type 0 where
   pub fits : lengthBy (orderOf a s) (length stored) (length added) ≤ 256
-  pub wrong : loopsBy (orderOf a s) stored added ≡ false
+  pub wrong : Treeless (orderOf a s) stored added
 
 -- one exactly where the other
 pub record Exactly (A B : Type 0) : Type 0 where
