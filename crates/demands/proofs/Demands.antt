@@ -1,5 +1,5 @@
 -- The demands 1 and 3 of `specs/Demands`, proved; `proofs/Agreement` proves the second.
-use mathlib.Core.Path.{_≡_, refl}
+use mathlib.Core.Path.{_≡_, refl, ap, _∙_}
 use mathlib.Core.List.{List}
 use mathlib.Core.Bool.{Bool}
 use Prim.Native.Nat.{ℕ, _+_, _-_, _≤_}
@@ -17,22 +17,29 @@ use Rattle.motion.specs.Events.{Turn}
 use Rattle.machine.specs.Step.{around, fine}
 use Rattle.machine.specs.Run.{usedOf}
 use Rattle.machine.specs.Device.{tickOf, haltedOf, advanceOf, ranOf}
+use Rattle.machine.specs.declared.Used.{Used}
+use Rattle.machine.specs.declared.Used.the-variants.{Ticks, S3}
 use Rattle.machine.specs.History.{IsSum}
+use Rattle.machine.specs.Refusals.{Exactly}
 use Rattle.machine.proofs.Runs.{count-within, not-ready-before, ready-after}
 use Rattle.machine.proofs.Position.{at-rest}
 use Rattle.machine.proofs.Failures.{a-run-meets-a-command, a-run-fails-by-7-or-3-only, a-command-that-must-fail-fails}
 use Rattle.machine.proofs.Homing.{a-cut-W-leaves-the-plunger-uninitialised}
 use Rattle.pipettor.specs.declared.address.Address.{Address}
 use Rattle.pipettor.specs.declared.address.Address.the-variants.{One, Two, Three, Four, Five, Six, Seven, Eight, Nine}
-use Rattle.pipettor.specs.declared.address.Given.the-variants.{Is}
+use Rattle.pipettor.specs.declared.address.Given.{Given}
+use Rattle.pipettor.specs.declared.address.Given.the-variants.{Is, S2}
 use Rattle.pipettor.specs.declared.acting.Outcome.{Outcome}
 use Rattle.pipettor.specs.declared.acting.Outcome.the-variants.{Mute, Tell}
 use Rattle.pipettor.specs.declared.Controller.{Controller}
-use Rattle.pipettor.specs.Address.{letterOf, addressOf}
+use Rattle.pipettor.specs.declared.Said.{Said}
+use Rattle.pipettor.specs.declared.Said.the-variants.{Silent, Answer, S1}
+use Rattle.pipettor.specs.Address.{addressOf}
 use Rattle.pipettor.specs.Byte.{After, saidOf, writtenOf, dealtOf, heardOf, byteOf}
 use Rattle.pipettor.specs.Controller.{tickedOf, stoppedOf, advancedOf, runOf}
-use Rattle.frames.proofs.Calls.{a-short-buffer-is-s1, s1-changes-nothing, an-address-outside-1-to-9-is-s2}
+use Rattle.frames.proofs.Calls.{a-short-buffer-is-s1, s1-changes-nothing, an-address-outside-1-to-9-is-s2, more-than-60000-ticks-are-s3}
 use Rattle.demands.specs.Calls.{Call, after}
+use Rattle.demands.specs.Values.{Handed, number, S, saidIs, givenIs, usedIs}
 use Rattle.demands.specs.Demands.{Counted, Written, Answers, Makes, TotalityAndRefusals, Position, Moves}
 use Rattle.demands.proofs.Examples.{computed}
 use Rattle.demands.proofs.Frames.{a-frame-is-treated-by-the-table}
@@ -72,6 +79,23 @@ module _ (k : Controller) (n : ℕ) where
         ready-after = ready-after n w s;
       }
 
+-- S1, S2 and S3 are what is called so on paper, and nothing else is
+on-paper : {A : Type 0} {C : Type 0} (paper : A → Handed) (r s : A) (n : ℕ) → (paper r ≡ S n → r ≡ s) → paper s ≡ S n → Exactly (r ≡ s) C → Exactly (paper r ≡ S n) C
+on-paper paper r s n named is e = record { only = λ p. e .only (named p); always = λ c. ap paper (e .always c) ∙ is }
+
+only-s1 : (r : Said) → saidIs r ≡ S 1 → r ≡ S1
+only-s1 Silent e = let z : _≡_ {A = ℕ} 0 1 = cc in absurd (omega arith)
+only-s1 (Answer n) e = let z : _≡_ {A = ℕ} 0 1 = cc in absurd (omega arith)
+only-s1 S1 e = refl
+
+only-s2 : (r : Given) → givenIs r ≡ S 2 → r ≡ S2
+only-s2 (Is a) e = let z : _≡_ {A = ℕ} 0 1 = cc in absurd (omega arith)
+only-s2 S2 e = refl
+
+only-s3 : (r : Used) → usedIs r ≡ S 3 → r ≡ S3
+only-s3 (Ticks n) e = let z : _≡_ {A = ℕ} 0 1 = cc in absurd (omega arith)
+only-s3 S3 e = refl
+
 every-controller-answers : (a : Address) (calls : List Call) → Answers (after a calls)
 unfolding runOf ranOf tickedOf tickOf stoppedOf haltedOf
 every-controller-answers a calls =
@@ -79,11 +103,12 @@ every-controller-answers a calls =
     let sound = every-controller-is-sound a calls in
     record {
       every-premise-holds = sound .valid;
-      a-short-buffer-is-S1 = a-short-buffer-is-s1 k;
+      a-short-buffer-is-S1 = λ b buf. on-paper saidIs _ S1 1 (only-s1 _) refl (a-short-buffer-is-s1 k b buf);
       S1-changes-nothing = s1-changes-nothing k;
       a-byte-writes-its-answer-only = a-byte-writes k;
       a-frame-is-treated-by-the-table = λ ds buf good long. a-frame-is-treated-by-the-table k (sound .sized .frame) buf long ds good;
-      a-long-run-is-S3 = λ n h. rw (lt-ltb 60000 n h);
+      a-long-run-is-S3 = λ n. on-paper usedIs _ S3 3 (only-s3 _) refl (more-than-60000-ticks-are-s3 n k);
+      S3-changes-nothing = λ n h. rw (lt-ltb 60000 n h);
       a-run-counts-its-ticks = λ n h. (usedOf n (around (k .device .text)) (fine (k .device .core)), a-run-is-counted k n h);
       a-run-meets-a-command = λ is. a-run-meets-a-command (k .device .text) (k .device .core .course) is (sound .on-course);
       a-run-fails-by-7-or-3 = λ doing is empty. a-run-fails-by-7-or-3-only (k .device .text) (k .device .core) doing is (sound .on-course) empty;
@@ -91,20 +116,20 @@ every-controller-answers a calls =
       a-cut-W-leaves-it-uninitialised = λ t is. a-cut-W-leaves-the-plunger-uninitialised t (k .device .core) is (sound .homes);
     }
 
-address : (a : Address) → addressOf (letterOf a - 48) ≡ Is a
+address : (a : Address) → (n : ℕ) × (givenIs (addressOf n) ≡ number n) × (addressOf n ≡ Is a)
 unfolding addressOf
-address One = refl
-address Two = refl
-address Three = refl
-address Four = refl
-address Five = refl
-address Six = refl
-address Seven = refl
-address Eight = refl
-address Nine = refl
+address One = (1, refl, refl)
+address Two = (2, refl, refl)
+address Three = (3, refl, refl)
+address Four = (4, refl, refl)
+address Five = (5, refl, refl)
+address Six = (6, refl, refl)
+address Seven = (7, refl, refl)
+address Eight = (8, refl, refl)
+address Nine = (9, refl, refl)
 
 making-refuses : Makes
-making-refuses = record { one-to-nine = address; any-other-is-S2 = an-address-outside-1-to-9-is-s2 }
+making-refuses = record { one-to-nine = address; any-other-is-S2 = λ n. on-paper givenIs _ S2 2 (only-s2 _) refl (an-address-outside-1-to-9-is-s2 n) }
 
 pub every-call-is-answered : TotalityAndRefusals
 every-call-is-answered = record { making = making-refuses; calling = every-controller-answers; receiving = every-controller-receives }

@@ -21,7 +21,7 @@ use Rattle.motion.specs.Events.{quiet, start, volume}
 use Rattle.buffer.specs.declared.course.State.the-variants.{Empty, Running}
 use Rattle.buffer.specs.Course.{failedOf}
 use Rattle.machine.specs.declared.Device.{Device}
-use Rattle.machine.specs.declared.Used.the-variants.{Ticks, S3}
+use Rattle.machine.specs.declared.Used.the-variants.{Ticks}
 use Rattle.machine.specs.Step.{core}
 use Rattle.machine.specs.Device.{device}
 use Rattle.machine.specs.Refusals.{Exactly}
@@ -30,16 +30,17 @@ use Rattle.machine.specs.OnCourse as OnCourse
 use Rattle.machine.specs.OnCourse.{Failing, Fault}
 use Rattle.pipettor.specs.declared.address.Address.{Address}
 use Rattle.pipettor.specs.declared.address.Address.the-variants.{One}
-use Rattle.pipettor.specs.declared.address.Given.the-variants.{Is, S2}
+use Rattle.pipettor.specs.declared.address.Given.the-variants.{Is}
 use Rattle.pipettor.specs.declared.Controller.{Controller}
 use Rattle.pipettor.specs.declared.Said.{Said}
 use Rattle.pipettor.specs.declared.Said.the-variants.{Silent, Answer, S1}
-use Rattle.pipettor.specs.Address.{letterOf, addressOf}
+use Rattle.pipettor.specs.Address.{addressOf}
 use Rattle.pipettor.specs.Valid.{Valid}
 use Rattle.pipettor.specs.Byte as Byte
 use Rattle.pipettor.specs.Byte.{byteOf}
 use Rattle.pipettor.specs.Controller.{on, tickedOf, stoppedOf, advancedOf, runOf, readyIs}
 use Rattle.demands.specs.Calls.{Call, after, history, answers}
+use Rattle.demands.specs.Values.{number, S, saidIs, givenIs, usedIs}
 use Rattle.demands.specs.Frames.{frameSeen, Treated, Hears, frameAfter, ExchangesFrame}
 use Rattle.demands.specs.InHand.{Receives, ReceivesBy}
 use Rattle.demands.specs.Contracts.{Program, Meets, TakesAll, leftBy, answeredBy}
@@ -67,13 +68,14 @@ pub record Answers (k : Controller) : Type 0 where
   -- "A call's only premise is that its controller came from making and earlier calls": what each contract asks holds
   pub every-premise-holds : Valid k
   -- "S1: answer buffer lent is shorter than 32 bytes: controller and buffer unchanged"; it comes before everything else
-  pub a-short-buffer-is-S1 : (b : ℕ) (buf : List ℕ) → Exactly (byteOf k b buf .next .reply .said ≡ S1) (length buf < 32)
+  pub a-short-buffer-is-S1 : (b : ℕ) (buf : List ℕ) → Exactly (saidIs (byteOf k b buf .next .reply .said) ≡ S 1) (length buf < 32)
   pub S1-changes-nothing : (b : ℕ) (buf : List ℕ) → length buf < 32 → byteOf k b buf ≡ quiet (Byte.after (Byte.reply k S1) buf)
   pub a-byte-writes-its-answer-only : (b : ℕ) (buf : List ℕ) → (let r = byteOf k b buf .next in Written (r .reply .said) buf (r .buffer))
   -- the bytes of a frame to us, whatever its data: it gets each number exactly where 01's table gives it, and leaves what the table says
   pub a-frame-is-treated-by-the-table : (ds buf : List ℕ) → every dataByte ds ≡ true → 32 ≤ length buf → Treated ds (k .address) (k .device) buf (frameSeen k ds buf)
   -- "S3: more than 60000 ticks asked of a run: nothing changed"
-  pub a-long-run-is-S3 : (n : ℕ) → 60000 < n → runOf n k ≡ record { ticked = record { controller = k; failed = Fine }; used = S3 }
+  pub a-long-run-is-S3 : (n : ℕ) → Exactly (usedIs (runOf n k .used) ≡ S 3) (60000 < n)
+  pub S3-changes-nothing : (n : ℕ) → 60000 < n → runOf n k .ticked ≡ record { controller = k; failed = Fine }
   -- any other is counted: "the answer says how many ticks it used"
   pub a-run-counts-its-ticks : (n : ℕ) → n ≤ 60000 → (count : ℕ) × Counted n k count
   -- no tick meets a command that doesn't read, nor a fifth loop, nor a G whose g isn't the innermost that the run holds open
@@ -93,8 +95,8 @@ pub record Answers (k : Controller) : Type 0 where
 
 -- making: "Our address is one of `1` to `9`"; "S2: address outside 1 to 9 at making: no controller is made"
 pub record Makes : Type 0 where
-  pub one-to-nine : (a : Address) → addressOf (letterOf a - 48) ≡ Is a
-  pub any-other-is-S2 : (n : ℕ) → Exactly (addressOf n ≡ S2) ((n ≡ 0) ⊎ (9 < n))
+  pub one-to-nine : (a : Address) → (n : ℕ) × (givenIs (addressOf n) ≡ number n) × (addressOf n ≡ Is a)
+  pub any-other-is-S2 : (n : ℕ) → Exactly (givenIs (addressOf n) ≡ S 2) ((n ≡ 0) ⊎ (9 < n))
 
 pub record TotalityAndRefusals : Type 0 where
   pub making : Makes

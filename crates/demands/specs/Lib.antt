@@ -2,6 +2,7 @@ pub mod Calls
 pub mod Contracts
 pub mod Frames
 pub mod InHand
+pub mod Values
 pub mod Demands
 pub mod Tight
 pub mod Script

@@ -223,23 +223,18 @@ impl Body {
         let from = self.plunger;
         let tenths = (speed as u32) * 10;
         let settings = self.settings;
-        if from == 0 {
-            let at = Body {
-                plunger: from,
-                exact: 0,
-                initialised: true,
-                settings,
-            };
-            return Effect::Ends(at);
-        }
-        let cleared = Body {
+        // Until it arrives: a cut W leaves us uninitialised.
+        let home = Body {
             plunger: from,
             exact: 0,
-            initialised: false,
+            initialised: from == 0,
             settings,
         };
+        if from == 0 {
+            return Effect::Ends(home);
+        }
         Effect::Goes(
-            cleared,
+            home,
             Activity::Initialising(Travel::new(from, 0, tenths)),
         )
     }

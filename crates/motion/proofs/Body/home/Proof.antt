@@ -1,7 +1,7 @@
 use mathlib.Core.Path.{_≡_}
-use mathlib.Core.Bool.{true, false}
 use Prim.Native.Nat.{ℕ, _*_}
 use borrow.Author.Needs.{needs}
+use lib.Dec.{eqb}
 use Rattle.basics.proofs.Rules.{tests}
 use Rattle.motion.specs.declared.Body.{Body}
 use Rattle.motion.specs.declared.Travel.{Travel}
@@ -13,11 +13,11 @@ use Rattle.motion.proofs.Body.home.Statement.{statement}
 use Rattle.motion.proofs.Body.home.Tie as tie
 
 module _ (speed : ℕ) (b : Body) (r : Effect) where
-  there : b .plunger ≡ 0 → r ≡ Ends (bodyKnown true (bodyFor 0 b)) → r ≡ homeOf speed b .next
+  there : b .plunger ≡ 0 → r ≡ Ends (bodyKnown (eqb (b .plunger) 0) (bodyFor 0 b)) → r ≡ homeOf speed b .next
   unfolding homeOf
   there h e = simp (e, tests)
 
-  away : (t : Travel) → (b .plunger ≡ 0 → ⊥) → t ≡ travel (b .plunger) 0 (speed * 10) → r ≡ Goes (bodyKnown false (bodyFor 0 b)) (Initialising t) → r ≡ homeOf speed b .next
+  away : (t : Travel) → (b .plunger ≡ 0 → ⊥) → t ≡ travel (b .plunger) 0 (speed * 10) → r ≡ Goes (bodyKnown (eqb (b .plunger) 0) (bodyFor 0 b)) (Initialising t) → r ≡ homeOf speed b .next
   unfolding homeOf
   away t h p e = simp (e, p, tests)
 
