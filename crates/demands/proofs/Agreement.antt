@@ -1,4 +1,4 @@
--- The second demand of `specs/Demands`, proved: contracts that are met, with `Valid` kept on the way, make agreement over any calls; and so every program that meets them plays every script as the definition does.
+-- The second demand of `specs/Demands`, proved: contracts that are met, each of which promises what the next call asks, make agreement over any calls; and so every program that meets them plays every script as the definition does.
 use mathlib.Core.Path.{_≡_, refl, ap, subst, _∙_}
 use mathlib.Core.List.{List, [], _∷_, _++_}
 use Rattle.pipettor.specs.declared.address.Address.{Address}
@@ -7,7 +7,6 @@ use Rattle.pipettor.specs.declared.Controller.{Controller}
 use Rattle.pipettor.specs.Valid.{Valid}
 use Rattle.pipettor.specs.Byte.{After}
 use Rattle.pipettor.specs.Controller.{madeOf}
-use Rattle.pipettor.proofs.Keeps.{Sized, made-is-valid}
 use Rattle.demands.specs.Calls.{lent, Call, byte, listen, tick, stop, advance, run, said, callOf, answerOf, afterOf, answersOf, after, answers}
 use Rattle.demands.specs.Contracts.{Program, Made, makes, Meets, TakesAll, leftBy, answeredBy}
 use Rattle.demands.specs.Frames.{frameAfter}
@@ -17,36 +16,46 @@ use Rattle.demands.proofs.Examples.{impostors, computed}
 use Rattle.demands.proofs.Frames.{a-controller-hears}
 use Rattle.demands.proofs.Exchanges.{an-agreeing-program-exchanges}
 use Rattle.demands.proofs.InHand.{an-agreeing-program-receives}
-use Rattle.demands.proofs.Sound.{call-keeps-valid, call-keeps-sized, made-is-sized, every-controller-is-sound}
+use Rattle.demands.proofs.Sound.{every-controller-is-sound}
 
 module _ (p : Program) (m : Meets p) where
   call-agrees : (c : Call) (k : Controller) → p .Holds k → p .Takes c → Valid k → makes p c k ≡ record { controller = callOf c k .next; answer = answerOf c k }
   unfolding makes callOf answerOf
   call-agrees (byte b l) k h t v =
-      ap (λ (r : After). record { controller = r .reply .controller; answer = said (r .reply .said) (lent (r .buffer)) }) (m .byte k b l h t v)
-  call-agrees (listen bytes) k h t v = rw (m .listen k bytes h t)
-  call-agrees tick k h t v = rw (m .tick k h t v)
-  call-agrees stop k h t v = rw (m .stop k h t)
-  call-agrees (advance n) k h t v = rw (m .advance k n h t v)
-  call-agrees (run n) k h t v = rw (m .run k n h t v)
+      ap (λ (r : After). record { controller = r .reply .controller; answer = said (r .reply .said) (lent (r .buffer)) }) (m .byte k b l h t v .is)
+  call-agrees (listen bytes) k h t v = rw (m .listen k bytes h t .is)
+  call-agrees tick k h t v = rw (m .tick k h t v .is)
+  call-agrees stop k h t v = rw (m .stop k h t .is)
+  call-agrees (advance n) k h t v = rw (m .advance k n h t v .is)
+  call-agrees (run n) k h t v = rw (m .run k n h t v .is)
 
-  calls-agree : (cs : List Call) (k : Controller) → p .Holds k → TakesAll p cs → Sized k → Valid k → (leftBy p cs k ≡ afterOf cs k) × (answeredBy p cs k ≡ answersOf cs k) × p .Holds (afterOf cs k)
+  -- what a contract promises is enough to call again
+  call-again : (c : Call) (k : Controller) → p .Holds k → p .Takes c → Valid k → Valid (makes p c k .controller)
+  unfolding makes
+  call-again (byte b l) k h t v = m .byte k b l h t v .again
+  call-again (listen bytes) k h t v = m .listen k bytes h t .again v
+  call-again tick k h t v = m .tick k h t v .again
+  call-again stop k h t v = m .stop k h t .again v
+  call-again (advance n) k h t v = m .advance k n h t v .again
+  call-again (run n) k h t v = m .run k n h t v .again
+
+  calls-agree : (cs : List Call) (k : Controller) → p .Holds k → TakesAll p cs → Valid k → (leftBy p cs k ≡ afterOf cs k) × (answeredBy p cs k ≡ answersOf cs k) × (p .Holds (afterOf cs k)) × Valid (afterOf cs k)
   unfolding leftBy answeredBy afterOf answersOf
-  calls-agree [] k h t s v = (refl, refl, h)
-  calls-agree (c ∷ cs) k h t s v =
+  calls-agree [] k h t v = (refl, refl, h, v)
+  calls-agree (c ∷ cs) k h t v =
       let e = call-agrees c k h (t .0) v in
       let same : makes p c k .controller ≡ callOf c k .next = ap (λ (r : Made). r .controller) e in
-      let (left, back, holds) = calls-agree cs (callOf c k .next) (subst (p .Holds) same (m .held c k h (t .0) v)) (t .1) (call-keeps-sized c k s v) (call-keeps-valid c k s v) in
-      (rw same left, rw e (ap (_∷_ (answerOf c k)) back), holds)
+      let (left, back, holds, again) = calls-agree cs (callOf c k .next) (subst (p .Holds) same (m .held c k h (t .0) v)) (t .1) (subst Valid same (call-again c k h (t .0) v)) in
+      (rw same left, rw e (ap (_∷_ (answerOf c k)) back), holds, again)
 
 every-program-agrees : (p : Program) → Meets p → (a : Address) (calls : List Call) → TakesAll p calls → Agrees p a calls
 unfolding after answers
 every-program-agrees p m a calls takes =
     let k = madeOf a .next in
-    let made = m .fresh a in
-    let (left, back, holds) = calls-agree p m calls k (subst (p .Holds) made (m .fresh-held a)) takes (made-is-sized a) (made-is-valid a) in
+    let made = m .fresh a .is in
+    let (left, back, holds, again) = calls-agree p m calls k (subst (p .Holds) made (m .fresh-held a)) takes (subst Valid made (m .fresh a .again)) in
     record {
-      premise = rw (made, left) (every-controller-is-sound a calls .valid);
+      premise = rw (made, left) again;
       controller = rw made left;
       answered = rw made back;
       ready = rw (made, left) (m .ready (afterOf calls k) holds);

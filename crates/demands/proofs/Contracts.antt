@@ -26,7 +26,10 @@ use Rattle.pipettor.specs.Address.{addressOf}
 use Rattle.pipettor.specs.Byte.{byteOf}
 use Rattle.pipettor.specs.Listening.{listenedOf}
 use Rattle.pipettor.specs.Controller.{madeOf, tickedOf, stoppedOf, advancedOf, runOf, readyIs}
-use Rattle.demands.specs.Contracts.{Program, Meets, GivenEnsures, FreshEnsures, ByteEnsures, ListenEnsures, TickEnsures, StopEnsures, AdvanceEnsures, RunEnsures, ReadyEnsures}
+use Rattle.pipettor.proofs.Keeps.{Sized, made-is-valid, tick-keeps, stop-keeps-valid, advance-keeps, run-keeps, byte-keeps, listen-keeps-valid}
+use Rattle.demands.specs.Calls.{Call, byte, listen, tick, stop, advance, run, callOf}
+use Rattle.demands.specs.Contracts.{Program, makes, Meets, GivenEnsures, FreshEnsures, ByteEnsures, ListenEnsures, TickEnsures, StopEnsures, AdvanceEnsures, RunEnsures, ReadyEnsures}
+use Rattle.demands.proofs.Sound.{call-keeps-sized, made-is-sized}
 
 -- a contract's two parts: what it asks, and what it ensures
 pub record Says (asked asks ensured ensures : Type 0) : Type 1 where
@@ -72,7 +75,7 @@ listen-says κs k lent left r = record { asked-is = refl; ensured-is = refl }
 abbrev defined : Program
 defined =
     record {
-      Holds = λ k. Unit {0};
+      Holds = Sized;
       Takes = λ c. Unit {0};
       given = addressOf;
       fresh = λ a. madeOf a .next;
@@ -85,18 +88,27 @@ defined =
       ready = readyIs;
     }
 
+stays-sized : (c : Call) (k : Controller) → Sized k → Valid k → Sized (makes defined c k .controller)
+unfolding makes callOf
+stays-sized (byte b l) k s v = call-keeps-sized (byte b l) k s v
+stays-sized (listen bytes) k s v = call-keeps-sized (listen bytes) k s v
+stays-sized tick k s v = call-keeps-sized tick k s v
+stays-sized stop k s v = call-keeps-sized stop k s v
+stays-sized (advance n) k s v = call-keeps-sized (advance n) k s v
+stays-sized (run n) k s v = call-keeps-sized (run n) k s v
+
 pub the-contracts-can-be-met : Meets defined
 the-contracts-can-be-met =
     record {
       given = λ n. refl;
-      fresh = λ a. refl;
-      byte = λ k b l h t v. refl;
-      listen = λ k bytes h t. refl;
-      tick = λ k h t v. refl;
-      stop = λ k h t. refl;
-      advance = λ k n h t v. refl;
-      run = λ k n h t v. refl;
-      ready = λ k h. refl;
-      fresh-held = λ a. tt;
-      held = λ c k h t v. tt;
+      fresh = λ a. record { is = refl; again = made-is-valid a };
+      byte = λ k b l s t v. record { is = refl; again = byte-keeps k b (l .buffer) (s .text) v };
+      listen = λ k bytes s t. record { is = refl; again = listen-keeps-valid k bytes };
+      tick = λ k s t v. record { is = refl; again = tick-keeps k v };
+      stop = λ k s t. record { is = refl; again = stop-keeps-valid k };
+      advance = λ k n s t v. record { is = refl; again = advance-keeps k v n };
+      run = λ k n s t v. record { is = refl; again = run-keeps k v n };
+      ready = λ k s. refl;
+      fresh-held = made-is-sized;
+      held = λ c k s t v. stays-sized c k s v;
     }

@@ -25,7 +25,7 @@ use Rattle.pipettor.specs.declared.address.Address.{Address}
 use Rattle.pipettor.specs.declared.Controller.{Controller}
 use Rattle.pipettor.specs.Valid.{Valid}
 use Rattle.pipettor.specs.Controller.{on, madeOf, tickedOf, stoppedOf, advancedOf, runOf}
-use Rattle.pipettor.proofs.Keeps.{Sized, made-is-valid, tick-keeps, stop-keeps-valid, advance-keeps, run-keeps, byte-keeps, byte-keeps-sizes, listen-keeps, listen-keeps-sizes}
+use Rattle.pipettor.proofs.Keeps.{Sized, made-is-valid, tick-keeps, stop-keeps-valid, advance-keeps, run-keeps, byte-keeps, byte-keeps-sizes, listen-keeps-valid, listen-keeps-sizes}
 use Rattle.demands.specs.Calls.{Call, byte, listen, tick, stop, advance, run, ticksEvents, callOf, afterOf, eventsOf, after, history}
 use Rattle.demands.proofs.Does.{Does, none, new-error, call, ticks, every-call-does}
 
@@ -82,8 +82,8 @@ does-keep-homing d t (ticks n) h = rw (to-advance-is-to-call-ticks n d) at (tick
 -- the premise of every call, and the lengths of the arrays
 pub call-keeps-valid : (c : Call) (k : Controller) → Sized k → Valid k → Valid (callOf c k .next)
 unfolding callOf
-call-keeps-valid (byte b l) k s v = byte-keeps k b (l .buffer) s v
-call-keeps-valid (listen bytes) k s v = listen-keeps k bytes v
+call-keeps-valid (byte b l) k s v = byte-keeps k b (l .buffer) (s .text) v
+call-keeps-valid (listen bytes) k s v = listen-keeps-valid k bytes v
 call-keeps-valid tick k s v = tick-keeps k v
 call-keeps-valid stop k s v = stop-keeps-valid k v
 call-keeps-valid (advance n) k s v = advance-keeps k v n

@@ -259,7 +259,7 @@ abbrev done : Acted → Done
 done a = record { core = a .device .core; verdict = a .verdict }
 
 pub machine-step-Core-act : Tight machine.step.Core.act.Kinds.ps machine.step.Core.act.Kinds.r machine.step.Core.act.Reads.Learnt
-machine-step-Core-act κs args z z′ ws ws′ p q = whole done (λ (a : Acted). (tt, (tt, (tt, (a .device .text, tt))))) p q
+machine-step-Core-act κs args z z′ ws ws′ p q = whole done (λ (a : Acted). (tt, (tt, (tt, (a .device .text, tt))))) (p .is) (q .is)
 
 pub machine-step-Core-skip : Tight machine.step.Core.skip.Kinds.ps machine.step.Core.skip.Kinds.r machine.step.Core.skip.Reads.Learnt
 machine-step-Core-skip κs args z z′ ws ws′ p q = result p q
@@ -287,34 +287,34 @@ pub pipettor-address-Address-letter : Tight pipettor.address.Address.letter.Kind
 pipettor-address-Address-letter κs args z z′ ws ws′ p q = result p q
 
 pub pipettor-Controller-fresh : Tight pipettor.Controller.fresh.Kinds.ps pipettor.Controller.fresh.Kinds.r pipettor.Controller.fresh.Reads.Learnt
-pipettor-Controller-fresh κs args z z′ ws ws′ p q = result p q
+pipettor-Controller-fresh κs args z z′ ws ws′ p q = result (p .is) (q .is)
 
 abbrev spoke : After → Spoke
 spoke a = let c = a .reply .controller in record { parts = record { address = c .address; line = c .line; core = c .device .core }; said = a .reply .said }
 
 pub pipettor-lent-Parts-byte : Tight pipettor.lent.Parts.byte.Kinds.ps pipettor.lent.Parts.byte.Kinds.r pipettor.lent.Parts.byte.Reads.Learnt
-pipettor-lent-Parts-byte κs args z z′ ws ws′ p q = whole spoke (λ (a : After). let c = a .reply .controller in (tt, (tt, (c .frame, (c .device .text, (a .buffer, tt)))))) p q
+pipettor-lent-Parts-byte κs args z z′ ws ws′ p q = whole spoke (λ (a : After). let c = a .reply .controller in (tt, (tt, (c .frame, (c .device .text, (a .buffer, tt)))))) (p .is) (q .is)
 
 pub pipettor-Controller-byte : Tight pipettor.Controller.byte.Kinds.ps pipettor.Controller.byte.Kinds.r pipettor.Controller.byte.Reads.Learnt
-pipettor-Controller-byte κs args z z′ ws ws′ p q = whole (λ (a : After). a .reply) (λ (a : After). (tt, (tt, (a .buffer, tt)))) p q
+pipettor-Controller-byte κs args z z′ ws ws′ p q = whole (λ (a : After). a .reply) (λ (a : After). (tt, (tt, (a .buffer, tt)))) (p .is) (q .is)
 
 pub pipettor-Controller-listen : Tight pipettor.Controller.listen.Kinds.ps pipettor.Controller.listen.Kinds.r pipettor.Controller.listen.Reads.Learnt
-pipettor-Controller-listen κs args z z′ ws ws′ p q = result p q
+pipettor-Controller-listen κs args z z′ ws ws′ p q = result (p .is) (q .is)
 
 pub pipettor-Controller-ready : Tight pipettor.Controller.ready.Kinds.ps pipettor.Controller.ready.Kinds.r pipettor.Controller.ready.Reads.Learnt
 pipettor-Controller-ready κs args z z′ ws ws′ p q = result p q
 
 pub pipettor-Controller-tick : Tight pipettor.Controller.tick.Kinds.ps pipettor.Controller.tick.Kinds.r pipettor.Controller.tick.Reads.Learnt
-pipettor-Controller-tick κs args z z′ ws ws′ p q = result p q
+pipettor-Controller-tick κs args z z′ ws ws′ p q = result (p .is) (q .is)
 
 pub pipettor-Controller-advance : Tight pipettor.Controller.advance.Kinds.ps pipettor.Controller.advance.Kinds.r pipettor.Controller.advance.Reads.Learnt
-pipettor-Controller-advance κs args z z′ ws ws′ p q = result p q
+pipettor-Controller-advance κs args z z′ ws ws′ p q = result (p .is) (q .is)
 
 pub pipettor-Controller-run : Tight pipettor.Controller.run.Kinds.ps pipettor.Controller.run.Kinds.r pipettor.Controller.run.Reads.Learnt
-pipettor-Controller-run κs args z z′ ws ws′ p q = result p q
+pipettor-Controller-run κs args z z′ ws ws′ p q = result (p .is) (q .is)
 
 pub pipettor-Controller-stop : Tight pipettor.Controller.stop.Kinds.ps pipettor.Controller.stop.Kinds.r pipettor.Controller.stop.Reads.Learnt
-pipettor-Controller-stop κs args z z′ ws ws′ p q = result p q
+pipettor-Controller-stop κs args z z′ ws ws′ p q = result (p .is) (q .is)
 
 -- desk
 pub desk-read : Tight desk.read.Kinds.ps desk.read.Kinds.r desk.read.Reads.Learnt

@@ -12,6 +12,7 @@ use Rattle.pipettor.specs.declared.Ticked.{Ticked}
 use Rattle.pipettor.specs.declared.Ran.{Ran}
 use Rattle.pipettor.specs.Address.{addressOf}
 use Rattle.pipettor.specs.Valid.{Valid}
+use Rattle.pipettor.specs.Returns.{Returns, Keeps}
 use Rattle.pipettor.specs.Byte as Byte
 use Rattle.pipettor.specs.Byte.{byteOf}
 use Rattle.pipettor.specs.Listening.{listenedOf}
@@ -24,25 +25,25 @@ abbrev pub GivenEnsures : ℕ → Given → Type 0
 GivenEnsures n r = r ≡ addressOf n
 
 abbrev pub FreshEnsures : Address → Controller → Type 0
-FreshEnsures a r = r ≡ madeOf a .next
+FreshEnsures a r = Returns r (madeOf a .next) r
 
 abbrev pub ByteEnsures : Controller → ℕ → Lent → Reply → Lent → Type 0
-ByteEnsures k b before r after = Byte.after r (after .buffer) ≡ byteOf k b (before .buffer) .next
+ByteEnsures k b before r after = Returns (Byte.after r (after .buffer)) (byteOf k b (before .buffer) .next) (r .controller)
 
 abbrev pub ListenEnsures : Controller → List ℕ → Listened → Type 0
-ListenEnsures k bytes r = r ≡ listenedOf k bytes
+ListenEnsures k bytes r = Keeps r (listenedOf k bytes) k (r .controller)
 
 abbrev pub TickEnsures : Controller → Ticked → Type 0
-TickEnsures k r = r ≡ tickedOf k .next
+TickEnsures k r = Returns r (tickedOf k .next) (r .controller)
 
 abbrev pub StopEnsures : Controller → Controller → Type 0
-StopEnsures k r = r ≡ stoppedOf k .next
+StopEnsures k r = Keeps r (stoppedOf k .next) k r
 
 abbrev pub AdvanceEnsures : Controller → ℕ → Ticked → Type 0
-AdvanceEnsures k n r = r ≡ advancedOf n k
+AdvanceEnsures k n r = Returns r (advancedOf n k) (r .controller)
 
 abbrev pub RunEnsures : Controller → ℕ → Ran → Type 0
-RunEnsures k n r = r ≡ runOf n k
+RunEnsures k n r = Returns r (runOf n k) (r .ticked .controller)
 
 abbrev pub ReadyEnsures : Controller → Bool → Type 0
 ReadyEnsures k r = r ≡ readyIs k

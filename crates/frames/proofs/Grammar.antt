@@ -234,24 +234,28 @@ module _ (letter : ℕ) (operand after : List ℕ) (c : Command) (o : Operands o
 
   more : (v : Checked) → Judged after v → (w : Checked) × Judged longer w
   more Fine j = (Fine, command letter operand after c o m j)
-  more (Wrong (M.Letter place)) j =
-      (Wrong (M.Letter (place + 1 + length operand)), record {
-        letter = j .letter;
-        after = j .after;
-        up-to = up-to-more place _ (j .up-to);
-        foreign = j .foreign;
-      })
-  more (Wrong (M.Operand place)) j =
-      (Wrong (M.Operand (j .at + 1 + length operand + 1)), record {
-        letter = j .letter;
-        operand = j .operand;
-        after = j .after;
-        at = j .at + 1 + length operand;
-        here = refl;
-        up-to = up-to-more (j .at) _ (j .up-to);
-        extent = j .extent;
-        untaken = j .untaken;
-      })
+  more (Wrong (M.Letter place)) j = (
+    Wrong (M.Letter (place + 1 + length operand)),
+    record {
+      letter = j .letter;
+      after = j .after;
+      up-to = up-to-more place _ (j .up-to);
+      foreign = j .foreign;
+    },
+  )
+  more (Wrong (M.Operand place)) j = (
+    Wrong (M.Operand (j .at + 1 + length operand + 1)),
+    record {
+      letter = j .letter;
+      operand = j .operand;
+      after = j .after;
+      at = j .at + 1 + length operand;
+      here = refl;
+      up-to = up-to-more (j .at) _ (j .up-to);
+      extent = j .extent;
+      untaken = j .untaken;
+    },
+  )
 
 module _ (b : ℕ) (t : List ℕ) where
   abbrev its : List ℕ
@@ -269,24 +273,28 @@ module _ (b : ℕ) (t : List ℕ) where
 
   first-of : (f : Formed) → commandOf (letterOf b) its ≡ f → ((v : Checked) × Judged others v) → (v : Checked) × Judged (b ∷ (its ++ others)) v
   first-of (Made c) e later = more b its others c its-operands e (later .0) (later .1)
-  first-of NoLetter e later =
-      (Wrong (M.Letter 0), record {
-        letter = b;
-        after = its ++ others;
-        up-to = record { before = []; whole = refl; here = refl; commands = none; apart = tt };
-        foreign = nothing-made-is-foreign b its e;
-      })
-  first-of WrongOperand e later =
-      (Wrong (M.Operand 1), record {
-        letter = b;
-        operand = its;
-        after = others;
-        at = 0;
-        here = refl;
-        up-to = record { before = []; whole = refl; here = refl; commands = none; apart = tt };
-        extent = its-operands;
-        untaken = e;
-      })
+  first-of NoLetter e later = (
+    Wrong (M.Letter 0),
+    record {
+      letter = b;
+      after = its ++ others;
+      up-to = record { before = []; whole = refl; here = refl; commands = none; apart = tt };
+      foreign = nothing-made-is-foreign b its e;
+    },
+  )
+  first-of WrongOperand e later = (
+    Wrong (M.Operand 1),
+    record {
+      letter = b;
+      operand = its;
+      after = others;
+      at = 0;
+      here = refl;
+      up-to = record { before = []; whole = refl; here = refl; commands = none; apart = tt };
+      extent = its-operands;
+      untaken = e;
+    },
+  )
 
 -- n bounds the characters
 judged : (n : ℕ) → (t : List ℕ) → length t ≤ n → (v : Checked) × Judged t v

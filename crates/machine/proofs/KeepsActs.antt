@@ -1,5 +1,5 @@
 -- `Valid`, and the length of the text's array, are kept by every action and by the stop.
-use mathlib.Core.Path.{_≡_, refl}
+use mathlib.Core.Path.{_≡_, refl, ap}
 use mathlib.Core.Bool.{Bool, true, false}
 use mathlib.Core.List.{List}
 use Prim.Native.Nat.{ℕ, _+_, _≤_}
@@ -29,10 +29,12 @@ use Rattle.buffer.specs.declared.order.Order.the-variants as O
 use Rattle.machine.specs.Step.{core}
 use Rattle.buffer.specs.Course.{waiting, begun, halted}
 use Rattle.buffer.specs.Order.{orderOf, keptOf, lengthBy, verdictOf, laidBy, storedBy}
-use Rattle.machine.specs.Act.{haltOf, stopOf, changedOf, doneOf, coreError, actedOf, actOf}
+use Rattle.machine.specs.Act.{haltOf, stopOf, changedOf, doneOf, coreError, actedOf, Judged, Acted, actOf}
+use Rattle.machine.specs.Device.{device}
 use Rattle.machine.specs.Valid.{CourseOk, Valid, Ready}
 use Rattle.machine.proofs.Keeps.{reached-ok}
-use Rattle.machine.proofs.Acting.{accepted-fits}
+use Rattle.machine.specs.Acts.{Acts}
+use Rattle.machine.proofs.Acting.{accepted-fits, acts}
 
 module _ (c : Core) (ok : Valid c) where
   -- the body as it is, over another course
@@ -121,3 +123,13 @@ act-keeps a added d ready =
       valid = acted-keeps o (verdictOf o stored added) (length added) c (ready .valid) (λ e. rw all at (accepted-fits o stored added e));
       long = omega (arith, ready .long);
     }
+
+-- what is left of a string or a control: as defined, and valid again
+pub acts-again :
+    (a : Action) (added text after : List ℕ) (c d : Core) (o : Order) (v : Verdict) → Valid c → length text ≡ 256 → o ≡ orderOf a (c .course .state) →
+    Judged o text added (c .course .len) v → after ≡ storedBy o v (c .course .len) added text → d ≡ actedOf o v (length added) c .next →
+    Acts a added (device text c) after (record { core = d; verdict = v })
+acts-again a added text after c d o v ok long p q s e =
+    let is = acts a added text after c d o v p q s e in
+    let same : d ≡ actOf a added (device text c) .next .device .core = ap (λ (x : Acted). x .device .core) is in
+    record { is = is; again = rw same (act-keeps a added (device text c) (record { valid = ok; long = long }) .valid) }

@@ -2,6 +2,7 @@ pub mod Step
 pub mod Run
 pub mod Act
 pub mod Valid
+pub mod Acts
 pub mod Device
 pub mod History
 pub mod Movement

@@ -233,10 +233,7 @@ impl Body {
         if from == 0 {
             return Effect::Ends(home);
         }
-        Effect::Goes(
-            home,
-            Activity::Initialising(Travel::new(from, 0, tenths)),
-        )
+        Effect::Goes(home, Activity::Initialising(Travel::new(from, 0, tenths)))
     }
 
     // Towards an exact position within travel.

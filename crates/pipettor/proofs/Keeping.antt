@@ -16,7 +16,7 @@ use Rattle.pipettor.specs.declared.Listened.{Listened}
 use Rattle.pipettor.specs.Byte.{After, after, byteOf}
 use Rattle.pipettor.specs.Controller.{madeOf, tickedOf, advancedOf, runOf}
 use Rattle.pipettor.specs.Listening.{listenedOf}
-use Rattle.pipettor.proofs.Keeps.{Sized, made-is-valid, tick-keeps, advance-keeps, run-keeps, byte-keeps, byte-keeps-sizes, listen-keeps, listen-keeps-sizes}
+use Rattle.pipettor.proofs.Keeps.{Sized, made-is-valid, tick-keeps, advance-keeps, run-keeps, byte-keeps, byte-keeps-sizes, listen-keeps-valid, listen-keeps-sizes}
 use Rattle.pipettor.specs.Held.{Held}
 
 sized : (k : Controller) → Held k → Sized k
@@ -26,12 +26,12 @@ pub byte-kept : (k : Controller) (b : ℕ) (r : Reply) (before behind : List ℕ
 byte-kept k b r before behind h e =
     let s = byte-keeps-sizes k b before (sized k h) (h .valid) in
     let same : r .controller ≡ byteOf k b before .next .reply .controller = ap (λ (x : After). x .reply .controller) e in
-    rw same (record { valid = byte-keeps k b before (sized k h) (h .valid); frame = s .frame; text = s .text })
+    rw same (record { valid = byte-keeps k b before (h .text) (h .valid); frame = s .frame; text = s .text })
 
 pub listen-kept : (k : Controller) (bytes : List ℕ) (r : Listened) → Held k → r ≡ listenedOf k bytes → Held (r .controller)
 listen-kept k bytes r h e =
     let s = listen-keeps-sizes k bytes (sized k h) in
-    rw e (record { valid = listen-keeps k bytes (h .valid); frame = s .frame; text = s .text })
+    rw e (record { valid = listen-keeps-valid k bytes (h .valid); frame = s .frame; text = s .text })
 
 pub advance-kept : (k : Controller) (r : Ticked) (n : ℕ) → Held k → r ≡ advancedOf n k → Held (r .controller)
 unfolding advancedOf advanceOf

@@ -36,8 +36,8 @@ pub record Sized (k : Controller) : Type 0 where
   pub frame : length (k .frame) ≡ 320
   pub text : length (k .device .text) ≡ 256
 
-pub ready-of : (k : Controller) → Sized k → Valid k → Ready (k .device .core) (k .device .text)
-ready-of k s v = record { valid = v .core; long = s .text }
+pub ready-of : (k : Controller) → length (k .device .text) ≡ 256 → Valid k → Ready (k .device .core) (k .device .text)
+ready-of k long v = record { valid = v .core; long = long }
 
 -- made
 pub made-is-valid : (a : Address) → Valid (madeOf a .next)
@@ -71,7 +71,7 @@ performed-keeps T.Leave added d r = r
 performed-keeps (T.Refuse why) added d r = record { valid = error-ok _ (d .core) (every-number-is-1-to-15 why .1) (r .valid); long = r .long }
 performed-keeps (T.Act action) added d r = act-keeps action added d r
 
-module _ (k : Controller) (b : ℕ) (buf : List ℕ) (s : Sized k) (v : Valid k) where
+module _ (k : Controller) (b : ℕ) (buf : List ℕ) (long : length (k .device .text) ≡ 256) (v : Valid k) where
   dealt-ready : (let e = byteOf k b buf .next .reply .controller .device in Ready (e .core) (e .text))
   unfolding byteOf heardOf dealtOf
   dealt-ready =
@@ -80,12 +80,16 @@ module _ (k : Controller) (b : ℕ) (buf : List ℕ) (s : Sized k) (v : Valid k)
       let frame = keepOf (k .frame) deed b in
       let got = gotOf ours deed frame in
       by (λ (t : Turn After). (let e = t .next .reply .controller .device in Ready (e .core) (e .text))) (ltb (length buf) 32)
-      (λ h. ready-of k s v)
-      (λ h. performed-keeps (taskOf got) (take (sizeOf got) (squeezedOf ours deed frame)) (k .device) (ready-of k s v))
+      (λ h. ready-of k long v)
+      (λ h. performed-keeps (taskOf got) (take (sizeOf got) (squeezedOf ours deed frame)) (k .device) (ready-of k long v))
 
   pub byte-keeps : Valid (byteOf k b buf .next .reply .controller)
   byte-keeps = record { core = dealt-ready .valid }
 
+  byte-keeps-text : length (byteOf k b buf .next .reply .controller .device .text) ≡ 256
+  byte-keeps-text = dealt-ready .long
+
+module _ (k : Controller) (b : ℕ) (buf : List ℕ) (s : Sized k) (v : Valid k) where
   frame-keeps : length (byteOf k b buf .next .reply .controller .frame) ≡ 320
   unfolding byteOf heardOf
   frame-keeps =
@@ -96,13 +100,13 @@ module _ (k : Controller) (b : ℕ) (buf : List ℕ) (s : Sized k) (v : Valid k)
       (λ h. squeezed-length (letterOf (k .address)) deed frame ∙ kept-length (k .frame) deed b ∙ s .frame)
 
   pub byte-keeps-sizes : Sized (byteOf k b buf .next .reply .controller)
-  byte-keeps-sizes = record { frame = frame-keeps; text = dealt-ready .long }
+  byte-keeps-sizes = record { frame = frame-keeps; text = byte-keeps-text k b buf (s .text) v }
 
 -- bytes before a CR
 module _ (k : Controller) (bytes : List ℕ) where
-  pub listen-keeps : Valid k → Valid (listenedOf k bytes .controller)
+  pub listen-keeps-valid : Valid k → Valid (listenedOf k bytes .controller)
   unfolding listenedOf
-  listen-keeps v = record { core = v .core }
+  listen-keeps-valid v = record { core = v .core }
 
   pub listen-keeps-sizes : Sized k → Sized (listenedOf k bytes .controller)
   unfolding listenedOf

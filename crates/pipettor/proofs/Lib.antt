@@ -5,3 +5,4 @@ pub mod Bytes
 pub mod Keeps
 pub mod Listening
 pub mod Keeping
+pub mod Returning

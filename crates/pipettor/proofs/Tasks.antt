@@ -23,7 +23,11 @@ use Rattle.line.specs.Answer.{statusOf, answerOf, Answered}
 use Rattle.machine.specs.declared.step.Core.{Core}
 use Rattle.buffer.specs.declared.order.Action.{Action}
 use Rattle.machine.specs.declared.act.Done.{Done}
-use Rattle.machine.specs.Act.{coreError, acted, actOf}
+use Rattle.command.proofs.Numbers.{every-number-is-1-to-15}
+use Rattle.machine.specs.Act.{coreError}
+use Rattle.machine.specs.Acts.{Acts}
+use Rattle.machine.specs.Valid.{Valid}
+use Rattle.machine.proofs.KeepsActs.{error-ok}
 use Rattle.machine.specs.Device.{device}
 use Rattle.pipettor.specs.declared.address.Address.{Address}
 use Rattle.reports.specs.declared.Told.{Told}
@@ -38,6 +42,7 @@ use Rattle.pipettor.specs.declared.Said.{Said}
 use Rattle.pipettor.specs.declared.Said.the-variants.{Silent, Answer, S1}
 use Rattle.reports.specs.Reports.{tellOf}
 use Rattle.pipettor.specs.Address.{letterOf}
+use Rattle.pipettor.specs.Returns.{Performs}
 use Rattle.pipettor.specs.Byte.{actionOf, stringAction, taskOf, performedOf, toldCode, outcomeOf, saidOf, writtenOf, Spoken}
 
 -- by the case at hand
@@ -69,17 +74,17 @@ task-text d n run a p q = rw (p, q)
 
 -- what is done
 module _ (t : Task) (added text : List ℕ) (c : Core) where
-  pub leaves : t ≡ T.Leave → acted text c Fine ≡ performedOf t added (device text c) .next
+  pub leaves : Valid c → t ≡ T.Leave → Performs t added (device text c) text (record { core = c; verdict = Fine })
   unfolding performedOf
-  leaves p = rw p
+  leaves v p = record { is = rw p; again = v }
 
-  pub notes : (why : Refusal) (code : ℕ) (r : Core) → t ≡ T.Refuse why → code ≡ refusalNumber why → r ≡ coreError code c → acted text r (Refused why) ≡ performedOf t added (device text c) .next
+  pub notes : (why : Refusal) (code : ℕ) (r : Core) → Valid c → t ≡ T.Refuse why → code ≡ refusalNumber why → r ≡ coreError code c → Performs t added (device text c) text (record { core = r; verdict = Refused why })
   unfolding performedOf
-  notes why code r p q e = rw (p, e, q)
+  notes why code r v p q e = record { is = rw (p, e, q); again = rw e (error-ok code c (rw q (every-number-is-1-to-15 why .1)) v) }
 
-  pub performs : (a : Action) (after : List ℕ) (r : Done) → t ≡ T.Act a → acted after (r .core) (r .verdict) ≡ actOf a added (device text c) .next → acted after (r .core) (r .verdict) ≡ performedOf t added (device text c) .next
+  pub performs : (a : Action) (after : List ℕ) (r : Done) → t ≡ T.Act a → Acts a added (device text c) after r → Performs t added (device text c) after r
   unfolding performedOf
-  performs a after r p e = rw p e
+  performs a after r p e = record { is = rw p (e .is); again = e .again }
 
 -- what is answered: a refused report with its number, other data with theirs
 pub tells-no : (t : Told) (code error : ℕ) → t ≡ No → code ≡ refusalNumber R.Report → Tell Nothing code ≡ toldCode t error

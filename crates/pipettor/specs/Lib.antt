@@ -2,6 +2,7 @@ pub mod Address
 pub mod Byte
 pub mod Controller
 pub mod Valid
+pub mod Returns
 pub mod Listening
 pub mod Held
 pub mod Lent

@@ -14,10 +14,10 @@ use text::Data;
 ghost use mathlib.Core.Path.{_≡_};
 ghost use lib.ListN.{length};
 ghost use Rattle.machine.specs.Valid.{Valid};
-ghost use Rattle.machine.specs.Act.{acted};
 ghost use Rattle.machine.specs.Device.{device};
 ghost use Rattle.reports.specs.Reports.{Tellable};
-ghost use Rattle.pipettor.specs.Byte.{actionOf, stringAction, taskOf, sizeOf, performedOf, toldCode, outcomeOf, Fetched, Gotten, Spoken};
+ghost use Rattle.pipettor.specs.Returns.{Performs};
+ghost use Rattle.pipettor.specs.Byte.{actionOf, stringAction, taskOf, sizeOf, toldCode, outcomeOf, Fetched, Gotten, Spoken};
 
 // No frame to us, or its data.
 pub enum Got {
@@ -139,7 +139,7 @@ impl Task {
     // Done to a core and its text's array, with the characters that come with it.
     pub fn perform(self, c: Core, added: &[u8], text: &mut [u8; 256]) -> Done
         requires { ⌜ Valid c ⌝ }
-        ensures { λ r. ⌜ acted (now (text .exit)) (r .core) (r .verdict) ≡ performedOf self (now (added .entry)) (device (now (text .entry)) c) .next ⌝ }
+        ensures { λ r. ⌜ Performs self (now (added .entry)) (device (now (text .entry)) c) (now (text .exit)) r ⌝ }
     {
         match self {
             Task::Leave => Done {

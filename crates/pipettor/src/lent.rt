@@ -10,10 +10,10 @@ ghost use mathlib.Core.Path.{_≡_};
 ghost use Prim.Native.Nat.{_≤_};
 ghost use lib.ListN.{length, take};
 ghost use Rattle.machine.specs.Valid.{Valid};
-ghost use Rattle.machine.specs.Act.{acted};
 ghost use Rattle.machine.specs.Device.{device};
-ghost use Rattle.pipettor.specs.Byte.{performedOf, after, reply, byteOf};
+ghost use Rattle.pipettor.specs.Byte.{after, reply, byteOf};
 ghost use Rattle.pipettor.specs.Lent.{whole};
+ghost use Rattle.pipettor.specs.Returns.{Returns, Performs};
 
 // A controller without its arrays.
 pub struct Parts {
@@ -31,7 +31,7 @@ pub struct Spoke {
 fn perform(task: Task, c: Core, frame: &[u8], n: usize, text: &mut [u8; 256]) -> Done
     requires { ⌜ Valid c ⌝ }
     requires { ⌜ n ≤ length (now frame) ⌝ }
-    ensures { λ r. ⌜ acted (now (text .exit)) (r .core) (r .verdict) ≡ performedOf task (take n (now (frame .entry))) (device (now (text .entry)) c) .next ⌝ }
+    ensures { λ r. ⌜ Performs task (take n (now (frame .entry))) (device (now (text .entry)) c) (now (text .exit)) r ⌝ }
 {
     task.perform(c, &frame[..n], text)
 }
@@ -40,7 +40,7 @@ impl Parts {
     // One byte received, with a buffer lent for the answer.
     pub fn byte(self, b: u8, frame: &mut [u8; 320], text: &mut [u8; 256], buf: &mut [u8]) -> Spoke
         requires { ⌜ Valid (self .core) ⌝ }
-        ensures { λ r. ⌜ after (reply (whole (r .parts) (now (frame .exit)) (now (text .exit))) (r .said)) (now (buf .exit)) ≡ byteOf (whole self (now (frame .entry)) (now (text .entry))) b (now (buf .entry)) .next ⌝ }
+        ensures { λ r. ⌜ Returns (after (reply (whole (r .parts) (now (frame .exit)) (now (text .exit))) (r .said)) (now (buf .exit))) (byteOf (whole self (now (frame .entry)) (now (text .entry))) b (now (buf .entry)) .next) (whole (r .parts) (now (frame .exit)) (now (text .exit))) ⌝ }
     {
         if buf.len() < 32 {
             return Spoke {

@@ -12,6 +12,7 @@ use machine::Turned;
 use machine::Used;
 ghost use mathlib.Core.Path.{_≡_};
 ghost use Rattle.pipettor.specs.Valid.{Valid};
+ghost use Rattle.pipettor.specs.Returns.{Returns, Keeps};
 ghost use Rattle.pipettor.specs.Byte.{after, byteOf};
 ghost use Rattle.pipettor.specs.Controller.{on, madeOf, ticked, tickedOf, stoppedOf, advancedOf, runOf, readyIs};
 ghost use Rattle.pipettor.specs.Listening.{UpToCr, listenedOf};
@@ -81,7 +82,7 @@ fn receive(start: Line, frame: &mut [u8; 320], bytes: &[u8]) -> Taken
 
 impl Controller {
     pub fn fresh(address: Address) -> Controller
-        ensures { λ r. ⌜ r ≡ madeOf address .next ⌝ }
+        ensures { λ r. ⌜ Returns r (madeOf address .next) r ⌝ }
     {
         let device = Device::fresh();
         Controller {
@@ -95,7 +96,7 @@ impl Controller {
     // One byte received, with a buffer lent for the answer.
     pub fn byte(self, b: u8, buf: &mut [u8]) -> Reply
         requires { ⌜ Valid self ⌝ }
-        ensures { λ r. ⌜ after r (now (buf .exit)) ≡ byteOf self b (now (buf .entry)) .next ⌝ }
+        ensures { λ r. ⌜ Returns (after r (now (buf .exit))) (byteOf self b (now (buf .entry)) .next) (r .controller) ⌝ }
     {
         let address = self.address;
         let line = self.line;
@@ -127,7 +128,7 @@ impl Controller {
 
     // Bytes up to a CR, which is left: none of them completes a frame, and nothing is answered.
     pub fn listen(self, bytes: &[u8]) -> Listened
-        ensures { λ r. ⌜ r ≡ listenedOf self (now (bytes .entry)) ⌝ }
+        ensures { λ r. ⌜ Keeps r (listenedOf self (now (bytes .entry))) self (r .controller) ⌝ }
     {
         let address = self.address;
         let line = self.line;
@@ -175,7 +176,7 @@ impl Controller {
     // A tick of 10 ms.
     pub fn tick(self) -> Ticked
         requires { ⌜ Valid self ⌝ }
-        ensures { λ r. ⌜ r ≡ tickedOf self .next ⌝ }
+        ensures { λ r. ⌜ Returns r (tickedOf self .next) (r .controller) ⌝ }
     {
         let device = self.device;
         self.ticked(device.tick())
@@ -184,7 +185,7 @@ impl Controller {
     // Exactly n ticks, ready or not.
     pub fn advance(self, n: u32) -> Ticked
         requires { ⌜ Valid self ⌝ }
-        ensures { λ r. ⌜ r ≡ advancedOf n self ⌝ }
+        ensures { λ r. ⌜ Returns r (advancedOf n self) (r .controller) ⌝ }
     {
         let device = self.device;
         self.ticked(device.advance(n))
@@ -193,7 +194,7 @@ impl Controller {
     // Up to n ticks, until ready.
     pub fn run(self, n: u32) -> Ran
         requires { ⌜ Valid self ⌝ }
-        ensures { λ r. ⌜ r ≡ runOf n self ⌝ }
+        ensures { λ r. ⌜ Returns r (runOf n self) (r .ticked .controller) ⌝ }
     {
         let device = self.device;
         let ran = device.run(n);
@@ -215,7 +216,7 @@ impl Controller {
 
     // T, from the host.
     pub fn stop(self) -> Controller
-        ensures { λ r. ⌜ r ≡ stoppedOf self .next ⌝ }
+        ensures { λ r. ⌜ Keeps r (stoppedOf self .next) self r ⌝ }
     {
         let device = self.device;
         self.on(device.stop())

@@ -1,5 +1,6 @@
 use borrow.Author.Needs.{needs}
-use Rattle.pipettor.proofs.Bytes.{short, part-fits, tellable, heard}
+use Rattle.pipettor.proofs.Bytes.{part-fits, tellable, heard}
+use Rattle.pipettor.proofs.Returning.{short-returns}
 use Rattle.pipettor.proofs.lent.Parts.byte.Statement.{statement}
 use Rattle.pipettor.proofs.lent.Parts.byte.Tie as tie
 
@@ -17,14 +18,18 @@ answers c =
     let kept = ours .before .before in
     let came = kept .before .before in
     let tested = came .before .before in
-    heard _ _ _ _ _ _ _ _ _ _ _ _ _ _ _ _ (search (tested .if1 .left)) (ours .letter .ensures) (came .hear .ensures) (kept .keep .ensures) (got .get .ensures)
-    (asked .task .ensures) (sized .size .ensures) (done .perform .ensures) (told .outcome .ensures) (search (ready .ready .ensures)) (said .say .ensures)
+    record {
+      is =
+          heard _ _ _ _ _ _ _ _ _ _ _ _ _ _ _ _ (search (tested .if1 .left)) (ours .letter .ensures) (came .hear .ensures) (kept .keep .ensures) (got .get .ensures)
+          (asked .task .ensures) (sized .size .ensures) (done .perform .ensures .is) (told .outcome .ensures) (search (ready .ready .ensures)) (said .say .ensures);
+      again = record { core = done .perform .ensures .again };
+    }
 
 pub byte-spec : {M : Type 1} → statement M
 byte-spec =
     tie.close
     (tie.spec
-    (λ c. search (needs, short))
+    (λ c. search (needs, short-returns))
     (λ c κs. search needs)
     (λ c κs. search needs)
     (λ c κs. search needs)
