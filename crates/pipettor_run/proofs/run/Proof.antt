@@ -6,14 +6,4 @@ use Rattle.pipettor.proofs.Keeping.{run-kept}
 ruleset laws = (needs, run-kept)
 
 pub run-spec : {M : Type 1} → statement M
-run-spec =
-    tie.close
-    (tie.spec
-    (λ c. search laws)
-    (λ c κs. search laws)
-    (λ c κs. search laws)
-    (λ c. search laws)
-    (λ c κs. search laws)
-    (λ c κs. search laws)
-    (λ c κs. search laws)
-    (λ c. search laws))
+run-spec = tie.close (tie.spec (λ c κs. search laws) (λ c κs. search laws) (λ c. search laws))

@@ -6,4 +6,12 @@ use Rattle.pipettor.proofs.Keeping.{advance-kept}
 ruleset laws = (needs, advance-kept)
 
 pub wait-spec : {M : Type 1} → statement M
-wait-spec = tie.close (tie.spec (λ c κs. search laws) (λ c. search laws))
+wait-spec =
+    tie.close
+    (tie.spec
+    (λ c κs. search laws)
+    (λ c. search laws)
+    (λ c κs. search laws)
+    (λ c κs. search laws)
+    (λ c κs. search laws)
+    (λ c. search laws))
