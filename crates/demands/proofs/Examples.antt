@@ -69,6 +69,8 @@ examples =
     ∷ ("WA500R" answers "@" ∷ 3 ticks 80 exact 500000000 ∷ "T" answers "`" ∷ "?67" answers "`0" ∷ "X" answers "n" ∷ [])
     -- strings without R, T, C and R
     ∷ ("A5" answers "`" ∷ "T" answers "`" ∷ "?67" answers "`1" ∷ "C" answers "`" ∷ "?67" answers "`0" ∷ "R" answers "n" ∷ "WA5" answers "`" ∷ "R" answers "@" ∷ 3 ticks 5 exact 5000000 ∷ [])
+    -- each setting by its own command, here in the reverse order of the reports above; a second b replaces the first; a delay that ends leaves "initialised", and W that moves sets it
+    ∷ ("b350K7L5,6c400v300V200R" answers "@" ∷ 6 ticks 0 exact 0 ∷ "?4" answers "`7" ∷ "?6" answers "`300.0" ∷ "?7" answers "`200.0" ∷ "?8" answers "`400.0" ∷ "?9" answers "`5" ∷ "?10" answers "`6" ∷ "WA1,1R" answers "@" ∷ 21 ticks 38 exact 40350000 ∷ 1 ticks 40 exact 40350000 ∷ "M14b100,1A1,1R" answers "@" ∷ 4 ticks 40 exact 39900000 ∷ "WA5R" answers "@" ∷ 3 ticks 0 exact 5000000 ∷ "Q" answers "@" ∷ [])
     -- 02, W-213: "3 in the loop check"; what was stored stays
     ∷ ("WA5" answers "`" ∷ "G3R" answers "c" ∷ "?67" answers "c1" ∷ "R" answers "@" ∷ 3 ticks 5 exact 5000000 ∷ [])
     ∷ []

@@ -1,8 +1,8 @@
 -- Theorems over whole frames: what each control does where it is accepted, what leaves the body alone, and f.
-use mathlib.Core.Path.{_≡_, refl}
+use mathlib.Core.Path.{_≡_, refl, ap, _∙_}
 use mathlib.Core.Bool.{true, false, false≢true}
 use mathlib.Core.List.{List, [], _∷_}
-use Prim.Native.Nat.{ℕ}
+use Prim.Native.Nat.{ℕ, _*_}
 use Rattle.basics.specs.Lay.{over}
 use Rattle.settings.specs.Limits.{usualSettings}
 use Rattle.text.specs.declared.Control.{Control}
@@ -14,7 +14,7 @@ use Rattle.line.specs.declared.Report.the-variants.{Character}
 use Rattle.line.specs.Answer.{statusOf, answerOf}
 use Rattle.motion.specs.declared.Activity.the-variants.{Between}
 use Rattle.motion.specs.Events.{Turn}
-use Rattle.motion.specs.Motion.{atPlunger, resetOf}
+use Rattle.motion.specs.Motion.{atPlunger, resetOf, freshBody}
 use Rattle.buffer.specs.declared.course.State.{State}
 use Rattle.buffer.specs.declared.course.State.the-variants.{Empty, Stored, Running, Stopped, Done}
 use Rattle.buffer.specs.declared.order.Action.{Action}
@@ -24,6 +24,7 @@ use Rattle.machine.specs.declared.step.Core.{Core}
 use Rattle.machine.specs.declared.Device.{Device}
 use Rattle.machine.specs.Step.{core}
 use Rattle.machine.specs.Run.{readyIn, readyOf}
+use Rattle.machine.specs.Device.{freshOf}
 use Rattle.machine.specs.Act.{haltOf, stopOf, changedOf, doneOf, coreError, actedOf, actOf}
 use Rattle.machine.proofs.Bodies.{NoStop, strings-R-X-and-C-leave-the-body, strings-R-X-and-C-add-nothing-to-the-history}
 use Rattle.pipettor.specs.declared.address.Address.{Address}
@@ -79,6 +80,11 @@ module _ (a : Address) (d : Device) (buf : List ℕ) where
       core (record { plunger = d .core .body .plunger; exact = atPlunger (d .core .body); initialised = false; settings = usualSettings }) (courseOf 0 0 noLoops Empty 0)
   unfolding exchangeOf dealtOf receivedOf spaceless dataOf controlOf taskOf performedOf actOf cellOf loopsBy verdictOf actedOf doneOf changedOf resetOf
   reset-in-any-state = refl
+
+  -- "Fresh: plunger and exact position 0, as after reset."
+  pub fresh-is-as-after-a-reset-at-0 : d .core .body .plunger ≡ 0 → left (33 ∷ 82 ∷ []) ≡ freshOf .next .core
+  unfolding freshOf freshBody
+  fresh-is-as-after-a-reset-at-0 e = reset-in-any-state ∙ ap (λ (p : ℕ). core (record { plunger = p; exact = p * 1000000; initialised = false; settings = usualSettings }) (courseOf 0 0 noLoops Empty 0)) e
 
   -- every frame but T and !R leaves the plunger, the exact position, "initialised" and the settings alone, and the history: they change by ticks
   record Untouched (e : Turn Exchange) : Type 0 where

@@ -8,7 +8,9 @@ pub mod Texts
 pub mod Listening
 pub mod Controls
 pub mod Letters
+pub mod Reports
 pub mod Passes
 pub mod Ticks
 pub mod Grammar
 pub mod Strings
+pub mod Shaping

@@ -163,6 +163,7 @@ table =
     nanolitresOf 44000 40000 gives 1100000 ∷  -- ?3
     nanolitresOf 44000 40350 gives 1090458 ∷
     nanolitresOf 44000 39650 gives 1109710 ∷
+    nanolitresOf 313 40064 gives 7813 ∷  -- 7812.5: half up
     []
 
 -- no row of the table is wrong

@@ -1,0 +1,112 @@
+-- Theorems: what reports say in every state, and which numbers none of them has. 01, "Reports".
+use mathlib.Core.Path.{_≡_, refl}
+use mathlib.Core.Bool.{Bool, true, false, true≢false, _&&_, _||_}
+use mathlib.Core.List.{List, [], _∷_}
+use Prim.Native.Nat.{ℕ}
+use lib.Dec.{eqb, leb}
+use Rattle.basics.specs.Choice.{if_then_else_}
+use Rattle.basics.proofs.Choice.{by}
+use Rattle.settings.specs.declared.Settings.{Settings}
+use Rattle.text.specs.declared.Question.the-variants as Q
+use Rattle.text.specs.declared.Data.the-variants as D
+use Rattle.text.specs.Data.{receivedOf}
+use Rattle.line.specs.declared.Report.the-variants.{Whole}
+use Rattle.motion.specs.declared.Body.{Body}
+use Rattle.motion.specs.declared.Activity.the-variants.{Initialising, Moving, Delaying, Between}
+use Rattle.buffer.specs.declared.course.State.{State}
+use Rattle.buffer.specs.declared.course.State.the-variants.{Empty, Stored, Running, Stopped, Done}
+use Rattle.machine.specs.declared.Device.{Device}
+use Rattle.machine.specs.Run.{readyIn, readyOf}
+use Rattle.machine.specs.History.{moving}
+use Rattle.reports.specs.declared.Told.{Told}
+use Rattle.reports.specs.declared.Told.the-variants.{Says, No}
+use Rattle.reports.specs.Reports.{goalIn, busyIn, settingOf, valueOf, queryOf, tellOf}
+use Rattle.pipettor.specs.declared.address.Address.{Address}
+use Rattle.pipettor.specs.Byte.{toldOf}
+use Rattle.frames.specs.Refused.{numberFor, refusalOf}
+use Rattle.frames.proofs.Letters.{isAmong}
+
+-- the numbers of 01's list for ?
+abbrev pub values : List ℕ
+values = 0 ∷ 1 ∷ 3 ∷ 4 ∷ 6 ∷ 7 ∷ 8 ∷ 9 ∷ 10 ∷ 16 ∷ 17 ∷ 18 ∷ 19 ∷ 20 ∷ 29 ∷ 67 ∷ []
+
+none-of : (t : Bool) (x others : Told) (m : Bool) → (m ≡ false → others ≡ No) → (t || m) ≡ false → (if t then x else others) ≡ No
+none-of true x others m f h = absurd (true≢false h)
+none-of false x others m f h = f h
+
+later : (t m : Bool) → (t || m) ≡ false → m ≡ false
+later true m h = absurd (true≢false h)
+later false m h = h
+
+no-setting : (n : ℕ) (s : Settings) (m : List ℕ) → isAmong n (4 ∷ 6 ∷ 7 ∷ 8 ∷ 9 ∷ 10 ∷ 16 ∷ 17 ∷ 18 ∷ 19 ∷ 20 ∷ m) ≡ false → settingOf n s ≡ No
+unfolding settingOf
+no-setting n s m =
+    none-of (eqb n 4) _ _ _
+    (none-of (eqb n 6) _ _ _
+    (none-of (eqb n 7) _ _ _
+    (none-of (eqb n 8) _ _ _
+    (none-of (eqb n 9) _ _ _
+    (none-of (eqb n 10) _ _ _
+    (none-of (eqb n 16) _ _ _
+    (none-of (eqb n 17) _ _ _ (none-of (eqb n 18) _ _ _ (none-of (eqb n 19) _ _ _ (none-of (eqb n 20) _ _ _ (λ h. refl)))))))))))
+
+behind-settings : (n : ℕ) (m : List ℕ) → isAmong n (4 ∷ 6 ∷ 7 ∷ 8 ∷ 9 ∷ 10 ∷ 16 ∷ 17 ∷ 18 ∷ 19 ∷ 20 ∷ m) ≡ false → isAmong n m ≡ false
+behind-settings n m h =
+    later (eqb n 20) _
+    (later (eqb n 19) _
+    (later (eqb n 18) _
+    (later (eqb n 17) _
+    (later (eqb n 16) _
+    (later (eqb n 10) _ (later (eqb n 9) _ (later (eqb n 8) _ (later (eqb n 7) _ (later (eqb n 6) _ (later (eqb n 4) _ h))))))))))
+
+no-value : (n : ℕ) (b : Body) (s : State) → isAmong n values ≡ false → valueOf n b s ≡ No
+unfolding valueOf
+no-value n b s =
+    none-of (eqb n 0) _ _ _
+    (none-of (eqb n 1) _ _ _
+    (none-of (eqb n 3) _ _ _
+    (λ h.
+    by (λ (t : Told). t ≡ No) (leb 4 n && leb n 20)
+    (λ e. no-setting n (b .settings) (29 ∷ 67 ∷ []) h)
+    (λ e. none-of (eqb n 29) _ _ _ (none-of (eqb n 67) _ _ _ (λ k. refl)) (behind-settings n (29 ∷ 67 ∷ []) h)))))
+
+no-query : (n error : ℕ) → isAmong n (0 ∷ 1 ∷ []) ≡ false → queryOf n error ≡ No
+unfolding queryOf
+no-query n error = none-of (eqb n 0) _ _ _ (none-of (eqb n 1) _ _ _ (λ h. refl))
+
+module _ (a : Address) (d : Device) where
+  -- "Others 3, Q's too."
+  pub any-other-number-is-3 : (ds : List ℕ) (n : ℕ) → receivedOf ds ≡ D.Report (Q.Value n) → isAmong n values ≡ false → refusalOf ds a d ≡ 3
+  unfolding refusalOf numberFor tellOf
+  any-other-number-is-3 ds n e h = rw (e, no-value n (d .core .body) (d .core .course .state) h)
+
+  pub any-other-number-of-Q-is-3 : (ds : List ℕ) (n : ℕ) → receivedOf ds ≡ D.Report (Q.Query n) → isAmong n (0 ∷ 1 ∷ []) ≡ false → refusalOf ds a d ≡ 3
+  unfolding refusalOf numberFor tellOf
+  any-other-number-of-Q-is-3 ds n e h = rw (e, no-query n (d .core .course .error) h)
+
+  -- "0 goal (the plunger when none pending)": whenever nothing moves
+  pub the-goal-at-rest-is-the-plunger : moving (d .core .course .state) ≡ false → toldOf (Q.Value 0) a (d .core) ≡ Says (Whole (d .core .body .plunger))
+  unfolding tellOf valueOf goalIn
+  the-goal-at-rest-is-the-plunger = go (d .core .course .state)
+    where
+      go : (s : State) → moving s ≡ false → Says (Whole (goalIn s (d .core .body .plunger))) ≡ Says (Whole (d .core .body .plunger))
+      go (Running (Initialising t)) h = absurd (true≢false h)
+      go (Running (Moving t)) h = absurd (true≢false h)
+      go (Running (Delaying k)) h = refl
+      go (Running Between) h = refl
+      go Empty h = refl
+      go Stored h = refl
+      go Stopped h = refl
+      go Done h = refl
+
+  -- "29 .. `0` or `1`: busy": wherever it isn't ready
+  pub busy-is-not-ready : toldOf (Q.Value 29) a (d .core) ≡ Says (Whole (if readyOf (d .core) then 0 else 1))
+  unfolding tellOf valueOf
+  busy-is-not-ready = go (d .core .course .state)
+    where
+      go : (s : State) → Says (Whole (busyIn s)) ≡ Says (Whole (if readyIn s then 0 else 1))
+      go (Running k) = refl
+      go Empty = refl
+      go Stored = refl
+      go Stopped = refl
+      go Done = refl

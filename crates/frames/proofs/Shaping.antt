@@ -1,0 +1,175 @@
+-- Theorem: "v, c, L and K are kept and reported and don't shape motion": a tick does the same whatever they are.
+use mathlib.Core.Path.{_≡_, refl, sym, ap, _∙_}
+use mathlib.Core.Bool.{Bool, true, false}
+use mathlib.Core.List.{List}
+use Prim.Native.Nat.{ℕ}
+use lib.Dec.{eqb, leb}
+use lib.ListN.{take}
+use Rattle.basics.specs.Choice.{if_then_else_}
+use Rattle.settings.specs.declared.Volume.{Volume}
+use Rattle.settings.specs.declared.Pace.the-variants.{Top, Start, Cutoff}
+use Rattle.settings.specs.Units.{millionthsOf, goalOf, ticksOf}
+use Rattle.command.specs.declared.Way.{Way}
+use Rattle.command.specs.declared.Command.{Command}
+use Rattle.command.specs.declared.Command.the-variants as C
+use Rattle.command.specs.declared.refusal.Verdict.{Verdict}
+use Rattle.command.specs.declared.Found.{Found}
+use Rattle.command.specs.declared.Found.the-variants as F
+use Rattle.command.specs.Command.{commandAt}
+use Rattle.motion.specs.declared.Body.{Body}
+use Rattle.motion.specs.declared.Travel.{Travel}
+use Rattle.motion.specs.declared.Activity.{Activity}
+use Rattle.motion.specs.declared.Activity.the-variants.{Initialising, Moving, Delaying, Between}
+use Rattle.motion.specs.declared.Target.{Target}
+use Rattle.motion.specs.declared.Target.the-variants.{At, Outside}
+use Rattle.motion.specs.declared.Effect.{Effect}
+use Rattle.motion.specs.declared.Effect.the-variants.{Goes, Ends, Fails, Opens, Closes}
+use Rattle.motion.specs.Events.{Event, Turn}
+use Rattle.motion.specs.Motion.{laterOf, plungerOf, bodySet, settingsOf, homeOf, targetOf, setOut, aimed, moveOf, delayOf, effectOf, carried, waitedOf, between, onwardOf}
+use Rattle.buffer.specs.declared.course.State.{State}
+use Rattle.buffer.specs.declared.course.State.the-variants.{Empty, Stored, Running, Stopped, Done}
+use Rattle.buffer.specs.declared.course.Course.{Course}
+use Rattle.buffer.specs.declared.course.Went.{Went}
+use Rattle.buffer.specs.declared.course.Went.the-variants.{On, Off}
+use Rattle.buffer.specs.Course.{openedOf, closedOf}
+use Rattle.machine.specs.declared.step.Core.{Core}
+use Rattle.machine.specs.declared.step.Stepped.{Stepped}
+use Rattle.machine.specs.declared.Device.{Device}
+use Rattle.machine.specs.declared.Turned.{Turned}
+use Rattle.machine.specs.Step.{Around, around, core, stepped, wentOf, appliedOf, takenOf, carriedOn, runningOf, activeOf, stepOf}
+use Rattle.machine.specs.Device.{device, tickOf}
+
+-- what is left of a body without them: the plunger, the exact position, "initialised", V and C
+abbrev shape : Body → Body
+shape b = bodySet (settingsOf (b .settings .top) 0 0 0 0 0 (b .settings .rate)) b
+
+abbrev shapeOf : Effect → Effect
+shapeOf (Goes b a) = Goes (shape b) a
+shapeOf (Ends b) = Ends (shape b)
+shapeOf (Fails why b) = Fails why (shape b)
+shapeOf Opens = Opens
+shapeOf (Closes n) = Closes n
+
+abbrev shapeIn : Core → Core
+shapeIn c = core (shape (c .body)) (c .course)
+
+abbrev shapeBehind : Stepped → Stepped
+shapeBehind s = stepped (shapeIn (s .core)) (s .failed)
+
+-- two effects, or what a tick hands back, that differ in these settings only, and add the same to the history
+record Same {A : Type 0} (f : A → A) (t u : Turn A) : Type 0 where
+  next : f (t .next) ≡ f (u .next)
+  events : t .events ≡ u .events
+
+whichever : {A : Type 0} (f : A → A) (x : Bool) (a b c d : A) → f a ≡ f c → f b ≡ f d → f (if x then a else b) ≡ f (if x then c else d)
+whichever f true a b c d p q = p
+whichever f false a b c d p q = q
+
+either : {A : Type 0} (f : A → A) (x : Bool) (a b c d : Turn A) → Same f a c → Same f b d → Same f (if x then a else b) (if x then c else d)
+either f true a b c d p q = p
+either f false a b c d p q = q
+
+module _ (v c up down k : ℕ) where
+  -- a body with others in their place
+  abbrev other : Body → Body
+  other b = bodySet (settingsOf (b .settings .top) v c up down k (b .settings .rate)) b
+
+  abbrev otherIn : Core → Core
+  otherIn x = core (other (x .body)) (x .course)
+
+  aimed-same : (t : Target) (way : Way) (n : Volume) (b : Body) → Same shapeOf (aimed t way n (other b)) (aimed t way n b)
+  unfolding aimed setOut
+  aimed-same (At exact) way n b = record { next = whichever shapeOf (eqb (b .plunger) (goalOf exact)) _ _ _ _ refl refl; events = refl }
+  aimed-same Outside way n b = record { next = refl; events = refl }
+
+  effect-same : (x : Command) (b : Body) → Same shapeOf (effectOf x (other b)) (effectOf x b)
+  unfolding effectOf homeOf moveOf delayOf
+  effect-same (C.Initialise speed) b = record { next = whichever shapeOf (eqb (b .plunger) 0) _ _ _ _ refl refl; events = refl }
+  effect-same (C.Move way n) b =
+      either shapeOf (b .initialised) _ _ _ _ (aimed-same (targetOf way (millionthsOf n (b .settings .rate)) (b .exact)) way n b) (record { next = refl; events = refl })
+  effect-same (C.Speed Top n) b = record { next = refl; events = refl }
+  effect-same (C.Speed Start n) b = record { next = refl; events = refl }
+  effect-same (C.Speed Cutoff n) b = record { next = refl; events = refl }
+  effect-same (C.Slopes x y) b = record { next = refl; events = refl }
+  effect-same (C.Backlash n) b = record { next = refl; events = refl }
+  effect-same (C.Compensate n way) b = record { next = refl; events = refl }
+  effect-same (C.Delay ms) b = record { next = whichever shapeOf (eqb (ticksOf ms) 0) _ _ _ _ refl refl; events = refl }
+  effect-same C.Open b = record { next = refl; events = refl }
+  effect-same (C.Close n) b = record { next = refl; events = refl }
+
+  carried-same : (kind : Travel → Activity) (known : Bool) (t : Travel) (b : Body) → shapeOf (carried kind known t (other b)) ≡ shapeOf (carried kind known t b)
+  unfolding carried
+  carried-same kind known t b = whichever shapeOf (eqb (plungerOf t) (t .goal)) _ _ _ _ refl refl
+
+  onward-same : (a : Activity) (b : Body) → Same shapeOf (onwardOf a (other b)) (onwardOf a b)
+  unfolding onwardOf waitedOf
+  onward-same (Initialising t) b = record { next = carried-same Initialising true (laterOf t) b; events = refl }
+  onward-same (Moving t) b = record { next = carried-same Moving (b .initialised) (laterOf t) b; events = refl }
+  onward-same (Delaying n) b = record { next = whichever shapeOf (leb n 1) _ _ _ _ refl refl; events = refl }
+  onward-same Between b = record { next = refl; events = refl }
+
+  went-same : (w : Went) (b : Body) (x : Course) → shapeBehind (wentOf w b x) ≡ wentOf w (shape b) x
+  went-same (On on) b x = refl
+  went-same (Off why) b x = refl
+
+  applied-shape : (e : Effect) (next : ℕ) (x : Core) → shapeBehind (appliedOf e next x) ≡ appliedOf (shapeOf e) next (shapeIn x)
+  unfolding appliedOf
+  applied-shape (Goes b a) next x = refl
+  applied-shape (Ends b) next x = refl
+  applied-shape (Fails why b) next x = refl
+  applied-shape Opens next x = went-same (openedOf next (x .course)) (x .body) (x .course)
+  applied-shape (Closes n) next x = went-same (closedOf n next (x .course)) (x .body) (x .course)
+
+  applied-same : (e f : Effect) (next : ℕ) (x : Core) → shapeOf e ≡ shapeOf f → shapeBehind (appliedOf e next (otherIn x)) ≡ shapeBehind (appliedOf f next x)
+  applied-same e f next x p = applied-shape e next (otherIn x) ∙ ap (λ (g : Effect). appliedOf g next (shapeIn x)) p ∙ sym (applied-shape f next x)
+
+  taken-same : (f : Found) (x : Core) → Same shapeBehind (takenOf f (otherIn x)) (takenOf f x)
+  unfolding takenOf
+  taken-same (F.Command y next) x =
+      let s = effect-same y (x .body) in
+      record { next = applied-same (effectOf y (other (x .body)) .next) (effectOf y (x .body) .next) next x (s .next); events = s .events }
+  taken-same (F.Refused m) x = record { next = refl; events = refl }
+  taken-same F.End x = record { next = refl; events = refl }
+
+  running-same : (a : Activity) (w : Around) (x : Core) → Same shapeBehind (runningOf a w (otherIn x)) (runningOf a w x)
+  unfolding runningOf carriedOn
+  running-same a w x =
+      let s = onward-same a (x .body) in
+      either shapeBehind (between a) _ _ _ _ (taken-same (commandAt (take (x .course .len) (w .text)) (x .course .at)) x)
+      (record { next = applied-same (onwardOf a (other (x .body)) .next) (onwardOf a (x .body) .next) (x .course .at) x (s .next); events = s .events })
+
+  active-same : (s : State) (w : Around) (x : Core) → Same shapeBehind (activeOf s w (otherIn x)) (activeOf s w x)
+  unfolding activeOf
+  active-same (Running a) w x = running-same a w x
+  active-same Empty w x = record { next = refl; events = refl }
+  active-same Stored w x = record { next = refl; events = refl }
+  active-same Stopped w x = record { next = refl; events = refl }
+  active-same Done w x = record { next = refl; events = refl }
+
+-- two ticks that leave all but v, c, L and K the same: where the plunger is and is to be, what is in progress and how far, the run, V, C and the history
+pub record SameMotion (t u : Turn Turned) : Type 0 where
+  pub plunger : t .next .device .core .body .plunger ≡ u .next .device .core .body .plunger
+  pub exact : t .next .device .core .body .exact ≡ u .next .device .core .body .exact
+  pub initialised : t .next .device .core .body .initialised ≡ u .next .device .core .body .initialised
+  pub speed : t .next .device .core .body .settings .top ≡ u .next .device .core .body .settings .top
+  pub rate : t .next .device .core .body .settings .rate ≡ u .next .device .core .body .settings .rate
+  pub course : t .next .device .core .course ≡ u .next .device .core .course
+  pub failed : t .next .failed ≡ u .next .failed
+  pub events : t .events ≡ u .events
+
+pub v-c-L-and-K-do-not-shape-motion :
+    (v c up down k : ℕ) (d : Device) →
+    SameMotion (tickOf (device (d .text) (core (bodySet (settingsOf (d .core .body .settings .top) v c up down k (d .core .body .settings .rate)) (d .core .body)) (d .core .course)))) (tickOf d)
+unfolding tickOf stepOf
+v-c-L-and-K-do-not-shape-motion v c up down k d =
+    let s = active-same v c up down k (d .core .course .state) (around (d .text)) (d .core) in
+    record {
+      plunger = ap (λ (x : Stepped). x .core .body .plunger) (s .next);
+      exact = ap (λ (x : Stepped). x .core .body .exact) (s .next);
+      initialised = ap (λ (x : Stepped). x .core .body .initialised) (s .next);
+      speed = ap (λ (x : Stepped). x .core .body .settings .top) (s .next);
+      rate = ap (λ (x : Stepped). x .core .body .settings .rate) (s .next);
+      course = ap (λ (x : Stepped). x .core .course) (s .next);
+      failed = ap (λ (x : Stepped). x .failed) (s .next);
+      events = s .events;
+    }
