@@ -24,7 +24,7 @@ use Rattle.reports.specs.Reports.{goalIn, busyIn, settingOf, valueOf, queryOf, 
 use Rattle.pipettor.specs.declared.address.Address.{Address}
 use Rattle.pipettor.specs.Byte.{toldOf}
 use Rattle.frames.specs.Refused.{numberFor, refusalOf}
-use Rattle.frames.proofs.Letters.{isAmong}
+use Rattle.frames.specs.Grammar.{isAmong}
 
 -- the numbers of 01's list for ?
 abbrev pub values : List ℕ
