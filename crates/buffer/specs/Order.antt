@@ -25,9 +25,9 @@ use Rattle.buffer.specs.Course.{columnOf}
 
 -- the table of docs/BUFFER.md: an action in a column
 unfoldable pub cellOf : Action → Column → Order
--- "String without R: Stored, replacing any text. In Running: 15."
+-- "String without R: Stored, replacing any text. In Running: 15." 02, W-201: "from now on joined after Stored text; in Empty, Done and Stopped it replaces"
 cellOf A.Store K.Empty = Load Replacing false
-cellOf A.Store K.Stored = Load Replacing false
+cellOf A.Store K.Stored = Load Joined false
 cellOf A.Store K.Busy = Refuse R.Busy
 cellOf A.Store K.Delaying = Refuse R.Busy
 cellOf A.Store K.Stopped = Load Replacing false

@@ -55,7 +55,7 @@ fn store_in(column: Column) -> Order
 {
     match column {
         Column::Empty => Order::Load(Loading::Replacing, false),
-        Column::Stored => Order::Load(Loading::Replacing, false),
+        Column::Stored => Order::Load(Loading::Joined, false),
         Column::Busy => Order::Refuse(Refusal::Busy),
         Column::Delaying => Order::Refuse(Refusal::Busy),
         Column::Stopped => Order::Load(Loading::Replacing, false),

@@ -12,3 +12,4 @@ pub mod Texts
 pub mod Volumes
 pub mod Tight
 pub mod Records
+pub mod Parts

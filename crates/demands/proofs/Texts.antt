@@ -1,11 +1,12 @@
--- Theorems: no accepted text loses a character when it is stored, nor while it runs.
+-- Theorems: no accepted text loses a character when it is stored, nor while it runs; an accepted string waits, or runs from its start.
 use mathlib.Core.Path.{_≡_, refl, sym, ap, subst, _∙_}
 use mathlib.Core.Bool.{Bool, true, false}
 use mathlib.Core.Logic.{_⊎_, inl, inr}
 use mathlib.Core.List.{List, [], _++_}
-use Prim.Native.Nat.{ℕ, zero, suc, _%_, _≤_}
+use Prim.Native.Nat.{ℕ, zero, suc, _+_, _%_, _≤_}
 use native.Mathlib.Omega.{arith}
 use lib.ListN.{length, take, getD}
+use Rattle.basics.specs.Choice.{if_then_else_}
 use Rattle.basics.specs.Bytes.{every}
 use Rattle.basics.specs.Lay.{over}
 use Rattle.basics.proofs.Choice.{by}
@@ -39,7 +40,7 @@ use Rattle.buffer.specs.declared.course.Went.{Went}
 use Rattle.buffer.specs.declared.order.Loading.the-variants.{Joined, Replacing}
 use Rattle.buffer.specs.declared.order.Order.{Order}
 use Rattle.buffer.specs.declared.order.Order.the-variants as O
-use Rattle.buffer.specs.Course.{whileOf, reached}
+use Rattle.buffer.specs.Course.{courseOf, noLoops, whileOf, reached, withError, begun, waiting}
 use Rattle.buffer.specs.Order.{cellOf, orderOf, verdictOf}
 use Rattle.machine.specs.declared.step.Core.{Core}
 use Rattle.machine.specs.declared.step.Stepped.{Stepped}
@@ -50,7 +51,7 @@ use Rattle.machine.specs.Device.{advanceOf}
 use Rattle.machine.specs.Valid.{Ready}
 use Rattle.machine.specs.Refusals as Buffer
 use Rattle.machine.specs.Refusals.{verdictFor}
-use Rattle.machine.specs.Act.{actOf}
+use Rattle.machine.specs.Act.{doneOf, actedOf, actOf}
 use Rattle.machine.specs.History as Machine
 use Rattle.machine.proofs.Looping.{behind-open, behind-close}
 use Rattle.machine.proofs.Runs.{ready-ticks}
@@ -66,7 +67,7 @@ use Rattle.frames.proofs.Refusals.{no-other-number, every-frame-is-answered}
 use Rattle.frames.proofs.Texts.{added-body}
 use Rattle.demands.specs.Calls.{Call, after}
 use Rattle.demands.specs.Frames.{frameSeen}
-use Rattle.demands.specs.Texts.{held, SaysAccepted}
+use Rattle.demands.specs.Texts.{held, SaysAccepted, waitsOrRuns}
 use Rattle.demands.proofs.Frames.{a-frame-is-seen-as-an-exchange}
 use Rattle.demands.proofs.Sound.{every-controller-is-sound}
 
@@ -89,21 +90,17 @@ column-while (Moving t) = inl refl
 column-while (Delaying k) = inr refl
 column-while Between = inl refl
 
-front-while : (run : Bool) (a : Activity) (text : List ℕ) → frontOf run (Running a) text ≡ []
-front-while true a text = refl
-front-while false a text = refl
-
-loads : (run : Bool) (s : State) (stored : List ℕ) → Loads run stored (orderOf (stringAction run) s) (frontOf run s stored)
+loads : (run : Bool) (s : State) (stored : List ℕ) → Loads run stored (orderOf (stringAction run) s) (frontOf s stored)
 unfolding cellOf
 loads true Empty stored = replaces
 loads true Stored stored = joins
 loads true Stopped stored = replaces
 loads true Done stored = replaces
 loads false Empty stored = replaces
-loads false Stored stored = replaces
+loads false Stored stored = joins
 loads false Stopped stored = replaces
 loads false Done stored = replaces
-loads run (Running a) stored = rw (front-while run a stored) (loads-while run (whileOf a) stored (column-while a))
+loads run (Running a) stored = loads-while run (whileOf a) stored (column-while a)
 
 -- the text that is held after a string is accepted
 stored-by :
@@ -113,6 +110,23 @@ unfolding verdictOf
 stored-by added d ready run o front e joins ok = a-string-that-is-loaded-is-stored-whole (stringAction run) added d Joined run ready ok e
 stored-by added d ready run o front e replaces ok = a-string-that-is-loaded-is-stored-whole (stringAction run) added d Replacing run ready ok e
 stored-by added d ready run o front e (refuses why other) ok =
+    let z : Refused why ≡ Fine = rw e at ok in
+    let y : _≡_ {A = ℕ} 0 1 = cc in
+    absurd (omega arith)
+
+-- and its course: it waits, or runs from its start, with no loop open and no error
+started : (run : Bool) (m : ℕ) (c : Course) → withError 0 (if run then begun m c else waiting m c) ≡ courseOf 0 m noLoops (waitsOrRuns run) 0
+started true m c = refl
+started false m c = refl
+
+course-by :
+    (added : List ℕ) (d : Device) (run : Bool) (o : Order) (front : List ℕ) → orderOf (stringAction run) (d .core .course .state) ≡ o →
+    Loads run (held d) o front → verdictFor (stringAction run) added d ≡ Fine →
+    (m : ℕ) × (actOf (stringAction run) added d .next .device .core .course ≡ courseOf 0 m noLoops (waitsOrRuns run) 0)
+unfolding verdictOf actOf actedOf doneOf
+course-by added d run o front e joins ok = (d .core .course .len + length added, rw (ok, e) (started run (d .core .course .len + length added) (d .core .course)))
+course-by added d run o front e replaces ok = (0 + length added, rw (ok, e) (started run (0 + length added) (d .core .course)))
+course-by added d run o front e (refuses why other) ok =
     let z : Refused why ≡ Fine = rw e at ok in
     let y : _≡_ {A = ℕ} 0 1 = cc in
     absurd (omega arith)
@@ -145,25 +159,35 @@ module _ (ds : List ℕ) (n : ℕ) (run : Bool) (string : receivedOf ds ≡ D.Te
       let says = rw status-is at e in
       accepted-is-0 (refusalOf ds a d) (no-other-number ds a d) (omega arith)
 
-  kept : Ready (d .core) (d .text) → SaysAccepted (exchangeOf ds a d buf .next .buffer) → held (exchangeOf ds a d buf .next .device) ≡ wholeOf run ds d
+  is-fine : refusalOf ds a d ≡ 0 → verdictFor (stringAction run) (body (spaceless ds)) d ≡ Fine
+  is-fine e = zero-is-fine (verdictFor (stringAction run) (body (spaceless ds)) d) (rw number-is at e)
+
+  pub kept : Ready (d .core) (d .text) → refusalOf ds a d ≡ 0 → held (exchangeOf ds a d buf .next .device) ≡ wholeOf ds d
   unfolding Machine.callOf
   kept ready e =
       let s = d .core .course .state in
-      let fine = zero-is-fine (verdictFor (stringAction run) (body (spaceless ds)) d) (rw number-is at (accepted e)) in
-      rw acts (stored-by (body (spaceless ds)) d ready run (orderOf (stringAction run) s) (frontOf run s (held d)) refl (loads run s (held d)) fine)
+      rw acts (stored-by (body (spaceless ds)) d ready run (orderOf (stringAction run) s) (frontOf s (held d)) refl (loads run s (held d)) (is-fine e))
+
+  pub an-accepted-string-waits-or-runs-from-its-start :
+      refusalOf ds a d ≡ 0 → (m : ℕ) × (exchangeOf ds a d buf .next .device .core .course ≡ courseOf 0 m noLoops (waitsOrRuns run) 0)
+  unfolding Machine.callOf
+  an-accepted-string-waits-or-runs-from-its-start e =
+      let s = d .core .course .state in
+      let (m, is) = course-by (body (spaceless ds)) d run (orderOf (stringAction run) s) (frontOf s (held d)) refl (loads run s (held d)) (is-fine e) in
+      (m, rw acts is)
 
 -- No accepted text loses a character: where the answer to a frame says accepted, all of its text is held, behind what was stored where it is joined.
 pub no-accepted-text-loses-a-character :
     (a : Address) (calls : List Call) (ds buf : List ℕ) (n : ℕ) (run : Bool) → every dataByte ds ≡ true → 32 ≤ length buf → receivedOf ds ≡ D.Text n run →
     (let k = after a calls in
     let e = frameSeen k ds buf .next in
-    SaysAccepted (e .buffer) → held (e .device) ≡ wholeOf run ds (k .device))
+    SaysAccepted (e .buffer) → held (e .device) ≡ wholeOf ds (k .device))
 no-accepted-text-loses-a-character a calls ds buf n run good long string =
     let k = after a calls in
     let sound = every-controller-is-sound a calls in
-    subst (λ (e : Turn Exchange). SaysAccepted (e .next .buffer) → held (e .next .device) ≡ wholeOf run ds (k .device))
+    subst (λ (e : Turn Exchange). SaysAccepted (e .next .buffer) → held (e .next .device) ≡ wholeOf ds (k .device))
     (sym (a-frame-is-seen-as-an-exchange k (sound .sized .frame) buf long ds good))
-    (kept ds n run string (k .address) (k .device) buf (record { valid = sound .valid .core; long = sound .sized .text }))
+    (λ e. kept ds n run string (k .address) (k .device) buf (record { valid = sound .valid .core; long = sound .sized .text }) (accepted ds n run string (k .address) (k .device) buf e))
 
 -- while it runs, a text stays as it was accepted, or is erased whole
 abbrev Stays : Course → Course → Type 0

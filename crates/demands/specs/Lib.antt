@@ -8,3 +8,4 @@ pub mod Tight
 pub mod Script
 pub mod Texts
 pub mod Records
+pub mod Parts

@@ -45,7 +45,7 @@ data TakesText (run : Bool) (text : List ℕ) : Order → List ℕ → Type 0 wh
   alone : TakesText run text (O.Load Replacing run) []
   behind : TakesText run text (O.Load Joined run) text
 
-takes-text : (run : Bool) (s : State) (text : List ℕ) → Takes run s → TakesText run text (orderOf (stringAction run) s) (frontOf run s text)
+takes-text : (run : Bool) (s : State) (text : List ℕ) → Takes run s → TakesText run text (orderOf (stringAction run) s) (frontOf s text)
 unfolding cellOf
 takes-text true s text (empty r) = alone
 takes-text false s text (empty r) = alone
@@ -54,7 +54,7 @@ takes-text false s text (stopped r) = alone
 takes-text true s text (done r) = alone
 takes-text false s text (done r) = alone
 takes-text true s text (stored r) = behind
-takes-text false s text (stored r) = alone
+takes-text false s text (stored r) = behind
 takes-text run s text (delaying k) = alone
 
 module _ (run : Bool) (added : List ℕ) (d : Device) (len : d .core .course .len ≤ 256) (long : length (d .text) ≡ 256) where
@@ -126,20 +126,20 @@ module _ (ds : List ℕ) (n : ℕ) (run : Bool) (is : receivedOf ds ≡ D.Text n
     text-device e = rw (is, e)
 
     module _ (takes : Takes run (d .core .course .state)) (len : d .core .course .len ≤ 256) (long : length (d .text) ≡ 256) where
-      way : TakesText run (storedIn d) order (frontIn run d)
+      way : TakesText run (storedIn d) order (frontIn d)
       way = takes-text run (d .core .course .state) (storedIn d) takes
 
       -- "Text holds at most 256 characters": the whole of it is stored, and nothing else
       pub a-text-of-up-to-256-is-stored-whole :
-          length (wholeOf run ds d) ≤ 256 → LoopsRight run (frontIn run d) (body (spaceless ds)) → Accepts (wholeOf run ds d) ds a d buf
+          length (wholeOf ds d) ≤ 256 → LoopsRight run (frontIn d) (body (spaceless ds)) → Accepts (wholeOf ds d) ds a d buf
       a-text-of-up-to-256-is-stored-whole h loops =
-          let code = taken run (addedOf ds) d len long order (frontIn run d) way (rw added-body h) (rw added-body loops) in
+          let code = taken run (addedOf ds) d len long order (frontIn d) way (rw added-body h) (rw added-body loops) in
           record {
             number = text-number ∙ ap verdictNumber code;
-            holds = rw (text-device code, ← added-body) (held run (addedOf ds) d len long order (frontIn run d) way (rw added-body h));
+            holds = rw (text-device code, ← added-body) (held run (addedOf ds) d len long order (frontIn d) way (rw added-body h));
           }
 
       -- and one character more is refused, the device keeping its text
-      pub a-text-of-more-than-256-is-refused : 256 < length (wholeOf run ds d) → RefusesWith 15 ds a d buf
+      pub a-text-of-more-than-256-is-refused : 256 < length (wholeOf ds d) → RefusesWith 15 ds a d buf
       a-text-of-more-than-256-is-refused h =
-          refuses 15 ds a d buf (λ e. omega arith) (text-number ∙ ap verdictNumber (refused run (addedOf ds) d len long order (frontIn run d) way (rw added-body h)))
+          refuses 15 ds a d buf (λ e. omega arith) (text-number ∙ ap verdictNumber (refused run (addedOf ds) d len long order (frontIn d) way (rw added-body h)))

@@ -15,8 +15,7 @@ use Rattle.pipettor.specs.declared.address.Address.{Address}
 use Rattle.frames.specs.Frame.{exchangeOf}
 use Rattle.frames.specs.Refused.{refusalOf, Refused}
 
--- a string, with R or without, in a state that takes it: "String without R: Stored, replacing any text";
--- "String with R: joined after Stored text and run; in Empty, Done or Stopped it replaces and runs; while delaying it replaces and runs"
+-- a string, with R or without, in a state that takes it: "String without R: Stored"; "String with R: joined after Stored text and run; in Empty, Done or Stopped it replaces and runs; while delaying it replaces and runs"
 pub data Takes : Bool → State → Type 0 where
   empty : (run : Bool) → Takes run Empty
   stopped : (run : Bool) → Takes run Stopped
@@ -24,21 +23,20 @@ pub data Takes : Bool → State → Type 0 where
   stored : (run : Bool) → Takes run Stored
   delaying : (k : ℕ) → Takes true (Running (Delaying k))
 
--- what stands before it then
-abbrev pub frontOf : Bool → State → List ℕ → List ℕ
-frontOf false s text = []
-frontOf true Stored text = text
-frontOf true Empty text = []
-frontOf true Stopped text = []
-frontOf true Done text = []
-frontOf true (Running a) text = []
+-- what stands before it then, with R or without: Stored text (02, W-201), and else nothing
+abbrev pub frontOf : State → List ℕ → List ℕ
+frontOf Stored text = text
+frontOf Empty text = []
+frontOf Stopped text = []
+frontOf Done text = []
+frontOf (Running a) text = []
 
-abbrev pub frontIn : Bool → Device → List ℕ
-frontIn run d = frontOf run (d .core .course .state) (take (d .core .course .len) (d .text))
+abbrev pub frontIn : Device → List ℕ
+frontIn d = frontOf (d .core .course .state) (take (d .core .course .len) (d .text))
 
--- the text that data with R or without make in a device
-abbrev pub wholeOf : Bool → List ℕ → Device → List ℕ
-wholeOf run ds d = frontIn run d ++ body (spaceless ds)
+-- the text that a string makes in a device
+abbrev pub wholeOf : List ℕ → Device → List ℕ
+wholeOf ds d = frontIn d ++ body (spaceless ds)
 
 -- "Loops are checked over the whole text when it is to run."
 abbrev pub LoopsRight : Bool → List ℕ → List ℕ → Type 0

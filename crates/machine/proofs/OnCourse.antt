@@ -290,7 +290,7 @@ column-on Done t at l o = o
 given : (a : Action) (k : Column) (t : List ℕ) (at : ℕ) (l : Loops) (added : List ℕ) → SentBy (act a added) → ColumnOn k t at l → Given (cellOf a k) t at l added
 unfolding cellOf
 given A.Store Col.Empty t at l added g o = (tt, g)
-given A.Store Col.Stored t at l added g o = (tt, g)
+given A.Store Col.Stored t at l added g o = (o, g)
 given A.Store Col.Busy t at l added g o = tt
 given A.Store Col.Delaying t at l added g o = tt
 given A.Store Col.Stopped t at l added g o = (tt, g)
