@@ -32,18 +32,18 @@ module _ (n p : ℕ) where
   pass-over h k = let m : n ≤ p + 1 = omega arith in simp tests
 
 module _ (at : ℕ) (loops : Loops) (c r : Course) where
-  pub reach-on : at < c .len → r ≡ courseOf at (c .len) loops (Running Between) (c .error) → r ≡ reached at loops c
+  pub reach-on : at < c .len → r ≡ courseOf at (c .len) loops (Running Between) (c .error) (c .misread) → r ≡ reached at loops c
   unfolding reached
   reach-on h e = rw (lt-ltb at (c .len) h) e
 
-  pub reach-end : c .len ≤ at → r ≡ courseOf at (c .len) loops Done (c .error) → r ≡ reached at loops c
+  pub reach-end : c .len ≤ at → r ≡ courseOf at (c .len) loops Done (c .error) (c .misread) → r ≡ reached at loops c
   unfolding reached
   reach-end h e = rw (le-ltb at (c .len) h) e
 
-pub no-loops : (l : Loops) (len : ℕ) (state : State) (c : Course) → l ≡ noLoops → courseOf 0 len l state (c .error) ≡ anew len state c
+pub no-loops : (l : Loops) (len : ℕ) (state : State) (c : Course) → l ≡ noLoops → courseOf 0 len l state (c .error) (c .misread) ≡ anew len state c
 no-loops l len state c e = rw e
 
-pub fails : (why : Refusal) (code : ℕ) (c d r : Course) → code ≡ refusalNumber why → d ≡ erasedOf c → r ≡ withError code d → r ≡ failedOf why c
+pub fails : (why : Refusal) (code : ℕ) (c d r : Course) → code ≡ refusalNumber why → d ≡ erasedOf c → r ≡ withError code 0 d → r ≡ failedOf why c
 fails why code c d r q p e = rw (p, q) at e
 
 -- a run that fails for its loops

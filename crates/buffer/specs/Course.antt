@@ -20,14 +20,15 @@ use Rattle.buffer.specs.declared.course.Pass.{Pass}
 use Rattle.buffer.specs.declared.course.Pass.the-variants.{Again, Over}
 
 -- a course with one field changed
-abbrev pub courseOf : ℕ → ℕ → Loops → State → ℕ → Course
-courseOf at len loops state error = record { at = at; len = len; loops = loops; state = state; error = error }
+abbrev pub courseOf : ℕ → ℕ → Loops → State → ℕ → ℕ → Course
+courseOf at len loops state error misread = record { at = at; len = len; loops = loops; state = state; error = error; misread = misread }
 
 abbrev pub inState : State → Course → Course
-inState state c = courseOf (c .at) (c .len) (c .loops) state (c .error)
+inState state c = courseOf (c .at) (c .len) (c .loops) state (c .error) (c .misread)
 
-abbrev pub withError : ℕ → Course → Course
-withError error c = courseOf (c .at) (c .len) (c .loops) (c .state) error
+-- the last error, and the column of what was misread: 0 but after a string that was refused with 2 or 3
+abbrev pub withError : ℕ → ℕ → Course → Course
+withError error column c = courseOf (c .at) (c .len) (c .loops) (c .state) error column
 
 -- open loops, the innermost first: where each starts, and how often it has been gone back to
 abbrev pub mark : ℕ → ℕ → Mark
@@ -54,15 +55,15 @@ passOf n p = if eqb n 0 then Again p else if ltb (p + 1) n then Again (p + 1) el
 
 -- a command has ended, and the next stands at a place: "The end of the last command makes Done in the same tick."
 unfoldable pub reached : ℕ → Loops → Course → Course
-reached at loops c = courseOf at (c .len) loops (if ltb at (c .len) then Running Between else Done) (c .error)
+reached at loops c = courseOf at (c .len) loops (if ltb at (c .len) then Running Between else Done) (c .error) (c .misread)
 
 -- a command goes on, and the next stands at a place
 abbrev pub goneOn : Activity → ℕ → Course → Course
-goneOn a at c = courseOf at (c .len) (c .loops) (Running a) (c .error)
+goneOn a at c = courseOf at (c .len) (c .loops) (Running a) (c .error) (c .misread)
 
 -- a text of so many characters, before its first command: erased, waiting, and run from its start
 abbrev pub anew : ℕ → State → Course → Course
-anew len state c = courseOf 0 len noLoops state (c .error)
+anew len state c = courseOf 0 len noLoops state (c .error) (c .misread)
 
 abbrev pub erasedOf : Course → Course
 erasedOf c = anew 0 Empty c
@@ -73,9 +74,9 @@ waiting len c = anew len Stored c
 abbrev pub begun : ℕ → Course → Course
 begun len c = anew len (Running Between) c
 
--- "A refusal in a run sets the last error to its code and erases the text (Empty)"
+-- "A refusal in a run sets the last error to its code and erases the text (Empty)"; it has no column (02, W-202)
 abbrev pub failedOf : Refusal → Course → Course
-failedOf why c = withError (refusalNumber why) (erasedOf c)
+failedOf why c = withError (refusalNumber why) 0 (erasedOf c)
 
 -- g: "each further one from the command after its g"; a fifth loop is never met (proofs/OnCourse)
 unfoldable pub openedOf : ℕ → Course → Went

@@ -63,13 +63,14 @@ pub struct Loops {
     pub fourth: Mark,
 }
 
-// The next command's place, the text's length, and the last error.
+// The next command's place, the text's length, the last error, and the column of what was misread, 0 if nothing was.
 pub struct Course {
     pub at: usize,
     pub len: usize,
     pub loops: Loops,
     pub state: State,
     pub error: u8,
+    pub misread: u32,
 }
 
 // A loop goes round again, having gone back so often, or is over.
@@ -172,7 +173,7 @@ impl Loops {
 impl Course {
     // The same text at another place of its run.
     fn placed(self, at: usize, loops: Loops, state: State) -> Course
-        ensures { λ r. ⌜ r ≡ courseOf at (self .len) loops state (self .error) ⌝ }
+        ensures { λ r. ⌜ r ≡ courseOf at (self .len) loops state (self .error) (self .misread) ⌝ }
     {
         Course {
             at,
@@ -180,6 +181,7 @@ impl Course {
             loops,
             state,
             error: self.error,
+            misread: self.misread,
         }
     }
 
@@ -206,7 +208,7 @@ impl Course {
         ensures { λ r. ⌜ r ≡ failedOf why self ⌝ }
     {
         let code = why.number();
-        self.erase().with_error(code)
+        self.erase().with_error(code, 0)
     }
 
     // g, with the next command's place.
@@ -258,11 +260,12 @@ impl Course {
         self.placed(self.at, loops, state)
     }
 
-    pub fn with_error(self, error: u8) -> Course
-        ensures { λ r. ⌜ r ≡ withError error self ⌝ }
+    pub fn with_error(self, error: u8, column: u32) -> Course
+        ensures { λ r. ⌜ r ≡ withError error column self ⌝ }
     {
         let mut next = self;
         next.error = error;
+        next.misread = column;
         next
     }
 
@@ -277,6 +280,7 @@ impl Course {
             loops,
             state,
             error: self.error,
+            misread: self.misread,
         }
     }
 

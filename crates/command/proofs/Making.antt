@@ -16,45 +16,45 @@ pub accepted : (k : ℕ) (range R : Range) (usual U : ℕ) (n : Number) (r : Tak
 accepted k range R usual U n r p q e = rw (p, q) at e
 
 -- one number; x is what was given for it
-module _ (f : ℕ → Command) (x t : Taken) (e : x ≡ t) where
-  pub made-good : (n : ℕ) (r : Formed) → x ≡ Good n → r ≡ Made (f n) → r ≡ made f t
+module _ (read : ℕ) (f : ℕ → Command) (x t : Taken) (e : x ≡ t) where
+  pub made-good : (n : ℕ) (r : Formed) → x ≡ Good n → r ≡ Made (f n) → r ≡ made read f t
   unfolding made
   made-good n r h q = rw (← e, h) q
 
-  pub made-bad : x ≡ Bad → WrongOperand ≡ made f t
+  pub made-bad : x ≡ Bad → WrongOperand read ≡ made read f t
   unfolding made
   made-bad h = rw (← e, h)
 
-  pub made-of : (r : Formed) → r ≡ made f x → r ≡ made f t
+  pub made-of : (r : Formed) → r ≡ made read f x → r ≡ made read f t
   made-of r h = rw e at h
 
 -- two numbers
-module _ (f : ℕ → ℕ → Command) (x t : Taken) (e : x ≡ t) (y s : Taken) where
-  pub both-first : x ≡ Bad → WrongOperand ≡ both f t s
+module _ (read : ℕ) (f : ℕ → ℕ → Command) (x t : Taken) (e : x ≡ t) (y s : Taken) where
+  pub both-first : x ≡ Bad → WrongOperand read ≡ both read f t s
   unfolding both
   both-first h = rw (← e, h)
 
   module _ (a : ℕ) (h : x ≡ Good a) (d : y ≡ s) where
-    pub both-second : y ≡ Bad → WrongOperand ≡ both f t s
+    pub both-second : y ≡ Bad → WrongOperand read ≡ both read f t s
     unfolding both
     both-second k = rw (← e, h, ← d, k)
 
-    pub both-good : (b : ℕ) (r : Formed) → y ≡ Good b → r ≡ Made (f a b) → r ≡ both f t s
+    pub both-good : (b : ℕ) (r : Formed) → y ≡ Good b → r ≡ Made (f a b) → r ≡ both read f t s
     unfolding both
     both-good b r k q = rw (← e, h, ← d, k) q
 
 -- a unit and what is made in each
-module _ (x t : Taken) (e : x ≡ t) (increments micro : Formed) where
-  pub unit-bad : x ≡ Bad → WrongOperand ≡ inUnit t increments micro
+module _ (read : ℕ) (x t : Taken) (e : x ≡ t) (increments micro : Formed) where
+  pub unit-bad : x ≡ Bad → WrongOperand read ≡ inUnit read t increments micro
   unfolding inUnit
   unit-bad h = rw (← e, h)
 
   module _ (unit : ℕ) (h : x ≡ Good unit) (r : Formed) where
-    pub unit-increments : unit ≡ 0 → r ≡ increments → r ≡ inUnit t increments micro
+    pub unit-increments : unit ≡ 0 → r ≡ increments → r ≡ inUnit read t increments micro
     unfolding inUnit
     unit-increments z q = rw (← e, h, z) q
 
-    pub unit-micro : (unit ≡ 0 → ⊥) → r ≡ micro → r ≡ inUnit t increments micro
+    pub unit-micro : (unit ≡ 0 → ⊥) → r ≡ micro → r ≡ inUnit read t increments micro
     unfolding inUnit
     unit-micro z q = rw (← e, h) (simp tests q)
 

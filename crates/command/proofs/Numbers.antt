@@ -11,7 +11,7 @@ use Rattle.command.specs.Numbers.{refusalNumber, verdictNumber}
 
 pub every-number-is-1-to-15 : (why : Refusal) → (0 < refusalNumber why) × (refusalNumber why ≤ 15)
 every-number-is-1-to-15 (R.Misread (Letter place)) = (omega arith, omega arith)
-every-number-is-1-to-15 (R.Misread (Operand place)) = (omega arith, omega arith)
+every-number-is-1-to-15 (R.Misread (Operand place read)) = (omega arith, omega arith)
 every-number-is-1-to-15 R.Report = (omega arith, omega arith)
 every-number-is-1-to-15 R.Loops = (omega arith, omega arith)
 every-number-is-1-to-15 R.Outside = (omega arith, omega arith)

@@ -1,4 +1,4 @@
--- Theorems: how far a command reaches, where a refusal stands, and that only the end of a text has nothing.
+-- Theorems: how far a command reaches, where a refusal stands and how far its operand was read, and that only the end of a text has nothing.
 use mathlib.Core.Path.{_≡_, refl, ap}
 use mathlib.Core.Bool.{Bool, true, false, _||_, false≢true}
 use mathlib.Core.List.{List, [], _∷_, _++_}
@@ -6,7 +6,7 @@ use Prim.Native.Nat.{ℕ, _+_, _-_, _≤_, _<_}
 use native.Mathlib.Omega.{arith}
 use borrow.Author.Tests.{ltb-true, eqb-true, ne-eqb}
 use lib.Dec.{eqb, ltb}
-use lib.ListN.{length, drop, length-drop}
+use lib.ListN.{length, drop, getD, length-drop}
 use lib.Seq.{getD-drop}
 use Rattle.basics.proofs.Lists.{drop-step}
 use Rattle.operand.specs.declared.Class.the-variants as Class
@@ -20,32 +20,33 @@ use Rattle.command.specs.declared.Formed.the-variants.{Made, NoLetter, W
 use Rattle.command.specs.declared.Found.the-variants as F
 use Rattle.command.specs.declared.refusal.Misread.the-variants.{Letter, Operand}
 use Rattle.command.specs.Table.{letterOf, commandOf}
-use Rattle.command.specs.Command.{placed, foundIn, commandAt, Reach}
+use Rattle.command.specs.Command.{placed, foundIn, commandAt, Reach, OperandRefused}
+use Rattle.command.proofs.ReadBy.{a-wrong-operand-was-read-so-far}
 
 module _ (at n : ℕ) where
   placed-next : (f : Formed) (c : Command) (next : ℕ) → placed at n f ≡ F.Command c next → next ≡ at + 1 + n
   unfolding placed
   placed-next (Made d) c next e = cc
   placed-next NoLetter c next e = cc
-  placed-next WrongOperand c next e = cc
+  placed-next (WrongOperand k) c next e = cc
 
   placed-letter : (f : Formed) (p : ℕ) → placed at n f ≡ F.Refused (Letter p) → p ≡ at
   unfolding placed
   placed-letter (Made d) p e = cc
   placed-letter NoLetter p e = cc
-  placed-letter WrongOperand p e = cc
+  placed-letter (WrongOperand k) p e = cc
 
-  placed-operand : (f : Formed) (p : ℕ) → placed at n f ≡ F.Refused (Operand p) → p ≡ at + 1
+  placed-operand : (f : Formed) (p read : ℕ) → placed at n f ≡ F.Refused (Operand p read) → (p ≡ at + 1) × (f ≡ WrongOperand read)
   unfolding placed
-  placed-operand (Made d) p e = cc
-  placed-operand NoLetter p e = cc
-  placed-operand WrongOperand p e = cc
+  placed-operand (Made d) p read e = let z : _≡_ {A = ℕ} 0 1 = cc in absurd (omega arith)
+  placed-operand NoLetter p read e = let z : _≡_ {A = ℕ} 0 1 = cc in absurd (omega arith)
+  placed-operand (WrongOperand k) p read e = (cc, ap WrongOperand cc)
 
   placed-not-end : {A : Type 0} (f : Formed) → placed at n f ≡ F.End → A
   unfolding placed
   placed-not-end (Made d) e = let z : _≡_ {A = ℕ} 0 1 = cc in absurd (omega arith)
   placed-not-end NoLetter e = let z : _≡_ {A = ℕ} 0 1 = cc in absurd (omega arith)
-  placed-not-end WrongOperand e = let z : _≡_ {A = ℕ} 0 1 = cc in absurd (omega arith)
+  placed-not-end (WrongOperand k) e = let z : _≡_ {A = ℕ} 0 1 = cc in absurd (omega arith)
 
 -- the letter at a place of the text, and an operand text of n bytes behind it
 module _ (s : List ℕ) (at next : ℕ) (h : at < length s) (far : next ≡ at + 1 + length (operandText (drop (at + 1) s))) where
@@ -82,19 +83,26 @@ module _ (at p : ℕ) where
   letter-in [] e = cc
   letter-in (b ∷ t) e = placed-letter at (length (operandText t)) (commandOf (letterOf b) (operandText t)) p e
 
-  operand-in : (u : List ℕ) → foundIn at u ≡ F.Refused (Operand p) → p ≡ at + 1
-  unfolding foundIn
-  operand-in [] e = cc
-  operand-in (b ∷ t) e = placed-operand at (length (operandText t)) (commandOf (letterOf b) (operandText t)) p e
-
 -- a letter is refused where it stands, and an operand where its text begins
 pub a-letter-is-refused-at-its-place : (s : List ℕ) (at p : ℕ) → commandAt s at ≡ F.Refused (Letter p) → p ≡ at
 unfolding commandAt
 a-letter-is-refused-at-its-place s at p e = letter-in at p (drop at s) e
 
-pub an-operand-is-refused-behind-its-letter : (s : List ℕ) (at p : ℕ) → commandAt s at ≡ F.Refused (Operand p) → p ≡ at + 1
-unfolding commandAt
-an-operand-is-refused-behind-its-letter s at p e = operand-in at p (drop at s) e
+pub an-operand-is-refused-behind-its-letter : (s : List ℕ) (at p read : ℕ) → commandAt s at ≡ F.Refused (Operand p read) → OperandRefused s at p read
+unfolding commandAt foundIn
+an-operand-is-refused-behind-its-letter s at p read e = go (drop at s) refl e
+  where
+    go : (u : List ℕ) → drop at s ≡ u → foundIn at u ≡ F.Refused (Operand p read) → OperandRefused s at p read
+    go [] d q = let z : _≡_ {A = ℕ} 0 1 = cc in absurd (omega arith)
+    go (b ∷ t) d q =
+        let h : at < length s = omega (arith, ap length d, length-drop at s) in
+        let first : b ≡ getD s at 0 = cc (drop-step s at h) in
+        let same : t ≡ drop (at + 1) s = cc (drop-step s at h) in
+        let r = placed-operand at (length (operandText t)) (commandOf (letterOf b) (operandText t)) p read q in
+        record {
+          behind-its-letter = r .0;
+          read-so-far = rw (← first, ← same) (a-wrong-operand-was-read-so-far (letterOf b) (operandText t) read (r .1));
+        }
 
 -- there is nothing only where the text has ended
 pub nothing-only-at-the-end : (s : List ℕ) (at : ℕ) → commandAt s at ≡ F.End → length s ≤ at

@@ -11,7 +11,8 @@ use Rattle.settings.specs.declared.Pace.the-variants.{Top, Start, Cutoff}
 use Rattle.settings.specs.Limits.{within}
 use Rattle.settings.specs.Units.{nearest, tenthsOf}
 use Rattle.operand.specs.Text.{run, rest}
-use Rattle.operand.specs.Number.{digits, decimalsOf, followedOf, numberOf, behindComma, pairOf}
+use Rattle.operand.specs.Begins.{longest, few, follows, begins, readIn}
+use Rattle.operand.specs.Number.{digits, decimalsOf, followedOf, numberOf, right, wellFormed, behindComma, parted, beginsTwo, readInTwo, pairOf}
 use Rattle.command.specs.declared.Way.{Way}
 use Rattle.command.specs.declared.Way.the-variants.{To, Up, Down}
 use Rattle.command.specs.declared.Command.{Command}
@@ -19,6 +20,7 @@ use Rattle.command.specs.declared.Command.the-variants.{Initialise, Spee
 use Rattle.command.specs.declared.Found.{Found}
 use Rattle.command.specs.declared.Found.the-variants as F
 use Rattle.command.specs.Table.{moveBy, letterOf, allowed, takenOf, wholeOf, nanolitresOf, speedOf, inTenths, flowOf, made, both, inUnit, volumeOf, pacedOf, slopesOf, compensationOf, commandOf}
+use Rattle.command.specs.declared.refusal.Misread.the-variants as M
 use Rattle.command.specs.declared.refusal.Refusal.the-variants as R
 use Rattle.command.specs.Numbers.{refusalNumber}
 use Rattle.command.specs.Command.{placed, foundIn, commandAt}
@@ -210,7 +212,59 @@ table =
     ",1" refused 2 ∷
     []
 
--- every row of the table is what the definitions say
-pub the-table-holds : answersOf table ≡ expectedOf table
-unfolding within nearest tenthsOf digit every valueOf run rest digits decimalsOf followedOf numberOf behindComma pairOf letterOf allowed takenOf wholeOf nanolitresOf speedOf inTenths flowOf made both inUnit volumeOf pacedOf slopesOf compensationOf commandOf placed foundIn commandAt
-the-table-holds = refl
+-- W-202: how many characters of a refused operand text were read
+infix 68 _read_
+pub data Part : Type 0 where
+  _read_ : String → ℕ → Part
+
+abbrev pub foundOf : List Part → List Found
+foundOf [] = []
+foundOf (text read n ∷ rows) = commandAt (bytes text) 0 ∷ foundOf rows
+
+abbrev pub refusedOf : List Part → List Found
+refusedOf [] = []
+refusedOf (text read n ∷ rows) = F.Refused (M.Operand 1 n) ∷ refusedOf rows
+
+abbrev pub parts : List Part
+parts =
+    "W.5" read 0 ∷  -- one number: no digit in front of the point
+    "W." read 0 ∷
+    "W5." read 2 ∷  -- none behind it
+    "W12.345" read 6 ∷  -- well formed, and refused for its decimals
+    "W12.3456" read 6 ∷
+    "W1.2.3" read 3 ∷
+    "W123456" read 6 ∷  -- well formed, and refused for its value
+    "W1234567" read 6 ∷
+    "W1234567.8" read 6 ∷
+    "W123456.7890" read 10 ∷
+    "W99" read 2 ∷
+    "W," read 0 ∷  -- a comma where one number is taken
+    "W5,1" read 1 ∷
+    "W5.,1" read 2 ∷
+    "A.5,1" read 0 ∷  -- two numbers: the first is wrong
+    "A5." read 2 ∷
+    "A5.,1" read 2 ∷
+    "A0.0001,1" read 5 ∷
+    "A0043999" read 6 ∷
+    "A1234567,1" read 6 ∷
+    "A5,." read 2 ∷  -- the second
+    "A5,1." read 4 ∷
+    "A,.1" read 1 ∷
+    "A5,1234567" read 8 ∷
+    "A1,,1" read 2 ∷  -- a second comma
+    "A1,1," read 3 ∷
+    "A,," read 1 ∷
+    "A5,1.0" read 5 ∷  -- well formed: the unit, the value, the decimals
+    "A5,2" read 3 ∷
+    "A44001" read 5 ∷
+    "A100.0" read 5 ∷
+    "L,81" read 3 ∷
+    "V,2" read 2 ∷
+    "g5" read 0 ∷  -- g takes nothing
+    "g," read 0 ∷
+    []
+
+-- every row is what the definitions say
+pub the-table-holds : (answersOf table ≡ expectedOf table) × (foundOf parts ≡ refusedOf parts)
+unfolding within nearest tenthsOf digit every valueOf run rest longest few follows begins readIn digits decimalsOf followedOf numberOf right wellFormed behindComma parted beginsTwo readInTwo pairOf letterOf allowed takenOf wholeOf nanolitresOf speedOf inTenths flowOf made both inUnit volumeOf pacedOf slopesOf compensationOf commandOf placed foundIn commandAt
+the-table-holds = (refl, refl)

@@ -41,7 +41,7 @@ pub taken-is-between : (k : ℕ) (range : Range) (usual : ℕ) (n : Number) (v :
 unfolding takenOf
 taken-is-between k range usual Absent v b e = let s : usual ≡ v = cc in rw s at b
 taken-is-between k range usual (Is n decimals) v b e = allowed-is-between k range n decimals v e
-taken-is-between k range usual Wrong v b e = good-is-not-bad v e
+taken-is-between k range usual (Wrong read) v b e = good-is-not-bad v e
 
 pub usual-is-between : (q : Quantity) → Between (rangeOf q) (usualOf q)
 usual-is-between Home = omega arith

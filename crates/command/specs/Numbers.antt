@@ -1,5 +1,7 @@
 -- 01, "Numbers that come back": the number of each refusal.
-use Prim.Native.Nat.{ℕ}
+use Prim.Native.Nat.{ℕ, _+_}
+use lib.Dec.{ltb}
+use Rattle.basics.specs.Choice.{if_then_else_}
 use Rattle.command.specs.declared.refusal.Misread.the-variants.{Letter, Operand}
 use Rattle.command.specs.declared.refusal.Refusal.{Refusal}
 use Rattle.command.specs.declared.refusal.Refusal.the-variants as R
@@ -10,7 +12,7 @@ abbrev pub refusalNumber : Refusal → ℕ
 -- "command letter not allowed here"
 refusalNumber (R.Misread (Letter place)) = 2
 -- "operand, report number or loops wrong; or, during a run, a goal outside travel"
-refusalNumber (R.Misread (Operand place)) = 3
+refusalNumber (R.Misread (Operand place read)) = 3
 refusalNumber R.Report = 3
 refusalNumber R.Loops = 3
 refusalNumber R.Outside = 3
@@ -26,6 +28,22 @@ refusalNumber R.Busy = 15
 abbrev pub verdictNumber : Verdict → ℕ
 verdictNumber Fine = 0
 verdictNumber (Refused why) = refusalNumber why
+
+-- 02, W-202: "the column of the last load refusal by 2 or 3, spaces dropped, counted from 1: the unallowed letter .., or where the wrong operand text begins"; data have 320 characters at most
+abbrev pub columnAt : ℕ → ℕ
+columnAt place = if ltb 320 place then 321 else place + 1
+
+-- "It is 0 after any other frame to us, a loop refusal or an error in a run"
+abbrev pub refusalColumn : Refusal → ℕ
+refusalColumn (R.Misread (Letter place)) = columnAt place
+refusalColumn (R.Misread (Operand place read)) = columnAt place
+refusalColumn R.Report = 0
+refusalColumn R.Loops = 0
+refusalColumn R.Outside = 0
+refusalColumn R.NotInitialised = 0
+refusalColumn R.NothingToRun = 0
+refusalColumn R.TooLong = 0
+refusalColumn R.Busy = 0
 
 -- of two, one after the other: the first refusal
 abbrev pub firstOf : Verdict → Verdict → Verdict

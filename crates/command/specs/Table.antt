@@ -13,8 +13,10 @@ use Rattle.settings.specs.Limits.{within, rangeOf, usualOf, speedsOf, flowsOf, 
 use Rattle.settings.specs.Units.{tenthsOf}
 use Rattle.operand.specs.declared.Number.{Number}
 use Rattle.operand.specs.declared.Number.the-variants.{Absent, Is, Wrong}
+use Rattle.operand.specs.declared.Single.{Single}
 use Rattle.operand.specs.declared.Pair.{Pair}
-use Rattle.operand.specs.Number.{numberOf, pairOf}
+use Rattle.operand.specs.Begins.{readIn}
+use Rattle.operand.specs.Number.{singleOf, readInTwo, pairOf}
 use Rattle.command.specs.declared.Way.{Way}
 use Rattle.command.specs.declared.Way.the-variants.{To, Up, Down}
 use Rattle.command.specs.declared.Letter.{Letter}
@@ -62,7 +64,7 @@ allowed k range thousandths decimals = if leb decimals k then rangedOf range (th
 unfoldable pub takenOf : ℕ → Range → ℕ → Number → Taken
 takenOf k range usual Absent = Good usual
 takenOf k range usual (Is n decimals) = allowed k range n decimals
-takenOf k range usual Wrong = Bad
+takenOf k range usual (Wrong read) = Bad
 
 -- "all others no point at all"
 unfoldable pub wholeOf : Quantity → Number → Taken
@@ -83,52 +85,68 @@ inTenths Bad = Bad
 unfoldable pub flowOf : Pace → Number → Taken
 flowOf pace Absent = Good (usualSpeed pace)
 flowOf pace (Is n decimals) = inTenths (allowed 3 (flowsOf pace) n decimals)
-flowOf pace Wrong = Bad
+flowOf pace (Wrong read) = Bad
 
--- a command of one number, and of two
-unfoldable pub made : (ℕ → Command) → Taken → Formed
-made f (Good n) = Made (f n)
-made f Bad = WrongOperand
+-- a command of one number, and of two; a wrong operand says how far it was read
+unfoldable pub made : ℕ → (ℕ → Command) → Taken → Formed
+made read f (Good n) = Made (f n)
+made read f Bad = WrongOperand read
 
-unfoldable pub both : (ℕ → ℕ → Command) → Taken → Taken → Formed
-both f (Good a) (Good b) = Made (f a b)
-both f (Good a) Bad = WrongOperand
-both f Bad b = WrongOperand
+unfoldable pub both : ℕ → (ℕ → ℕ → Command) → Taken → Taken → Formed
+both read f (Good a) (Good b) = Made (f a b)
+both read f (Good a) Bad = WrongOperand read
+both read f Bad b = WrongOperand read
+
+abbrev pub oneOf : (ℕ → Command) → Quantity → Single → Formed
+oneOf f q n = made (n .read) f (wholeOf q (n .number))
 
 -- the second number of A P D V v c: "0, or 1 for µL"
-unfoldable pub inUnit : Taken → Formed → Formed → Formed
-inUnit (Good unit) increments micro = if eqb unit 0 then increments else micro
-inUnit Bad increments micro = WrongOperand
+unfoldable pub inUnit : ℕ → Taken → Formed → Formed → Formed
+inUnit read (Good unit) increments micro = if eqb unit 0 then increments else micro
+inUnit read Bad increments micro = WrongOperand read
 
 unfoldable pub volumeOf : Way → Pair → Formed
 volumeOf way p =
-    inUnit (wholeOf Q.Choice (p .second))
-    (made (moveBy way false) (wholeOf Q.Increments (p .first)))
-    (made (moveBy way true) (nanolitresOf (p .first)))
+    inUnit (p .read) (wholeOf Q.Choice (p .second))
+    (made (p .read) (moveBy way false) (wholeOf Q.Increments (p .first)))
+    (made (p .read) (moveBy way true) (nanolitresOf (p .first)))
 
 unfoldable pub pacedOf : Pace → Pair → Formed
 pacedOf pace p =
-    inUnit (wholeOf Q.Choice (p .second))
-    (made (C.Speed pace) (speedOf pace (p .first)))
-    (made (C.Speed pace) (flowOf pace (p .first)))
+    inUnit (p .read) (wholeOf Q.Choice (p .second))
+    (made (p .read) (C.Speed pace) (speedOf pace (p .first)))
+    (made (p .read) (C.Speed pace) (flowOf pace (p .first)))
 
 unfoldable pub slopesOf : Pair → Formed
-slopesOf p = both C.Slopes (wholeOf Q.Slope (p .first)) (wholeOf Q.Slope (p .second))
+slopesOf p = both (p .read) C.Slopes (wholeOf Q.Slope (p .first)) (wholeOf Q.Slope (p .second))
 
 -- "0 up, 1 down"
 unfoldable pub compensationOf : Pair → Formed
-compensationOf p = both compensateBy (wholeOf Q.Compensation (p .first)) (wholeOf Q.Choice (p .second))
+compensationOf p = both (p .read) compensateBy (wholeOf Q.Compensation (p .first)) (wholeOf Q.Choice (p .second))
 
 -- what a letter and its operand text make: 01's table
 unfoldable pub commandOf : Letter → List ℕ → Formed
-commandOf L.Home t = made C.Initialise (wholeOf Q.Home (numberOf t))
+commandOf L.Home t = oneOf C.Initialise Q.Home (singleOf t)
 commandOf (L.Volume way) t = volumeOf way (pairOf t)
 commandOf (L.Speed pace) t = pacedOf pace (pairOf t)
 commandOf L.Slopes t = slopesOf (pairOf t)
-commandOf L.Backlash t = made C.Backlash (wholeOf Q.Backlash (numberOf t))
+commandOf L.Backlash t = oneOf C.Backlash Q.Backlash (singleOf t)
 commandOf L.Compensation t = compensationOf (pairOf t)
-commandOf L.Delay t = made C.Delay (wholeOf Q.Delay (numberOf t))
+commandOf L.Delay t = oneOf C.Delay Q.Delay (singleOf t)
 commandOf L.Open [] = Made C.Open
-commandOf L.Open (b ∷ t) = WrongOperand  -- "An operand on g is 3."
-commandOf L.Close t = made C.Close (wholeOf Q.Passes (numberOf t))
+commandOf L.Open (b ∷ t) = WrongOperand 0  -- "An operand on g is 3."
+commandOf L.Close t = oneOf C.Close Q.Passes (singleOf t)
 commandOf L.Other t = NoLetter
+
+-- how many characters of an operand text are read: the longest beginning that a well-formed one of the letter's form has too
+unfoldable pub readBy : Letter → List ℕ → ℕ
+readBy L.Home t = readIn t
+readBy (L.Volume way) t = readInTwo t
+readBy (L.Speed pace) t = readInTwo t
+readBy L.Slopes t = readInTwo t
+readBy L.Backlash t = readIn t
+readBy L.Compensation t = readInTwo t
+readBy L.Delay t = readIn t
+readBy L.Open t = 0
+readBy L.Close t = readIn t
+readBy L.Other t = 0

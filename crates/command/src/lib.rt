@@ -3,6 +3,7 @@ pub mod refusal;
 
 use operand::Number;
 use operand::Pair;
+use operand::Single;
 use refusal::Misread;
 use settings::Pace;
 use settings::Quantity;
@@ -12,7 +13,7 @@ use settings::Volume;
 use settings::units;
 ghost use mathlib.Core.Path.{_≡_};
 ghost use Prim.Native.Nat.{_+_, _-_, _^_, _≤_};
-ghost use Rattle.command.specs.Table.{letterOf, rangedOf, allowed, takenOf, wholeOf, nanolitresOf, speedOf, inTenths, flowOf, made, moveBy, volumeOf, pacedOf, slopesOf, compensationOf, commandOf};
+ghost use Rattle.command.specs.Table.{letterOf, rangedOf, allowed, takenOf, wholeOf, nanolitresOf, speedOf, inTenths, flowOf, made, oneOf, moveBy, volumeOf, pacedOf, slopesOf, compensationOf, commandOf};
 ghost use Rattle.command.specs.Command.{placed, commandAt};
 
 // A, P and D: to a place, up from here, down from here.
@@ -73,7 +74,8 @@ pub enum Taken {
 pub enum Formed {
     Made(Command),
     NoLetter,
-    WrongOperand,
+    // How many characters of the operand text were read.
+    WrongOperand(usize),
 }
 
 fn letter_of(b: u8) -> Letter
@@ -137,7 +139,7 @@ fn accept(k: usize, unit: u32, range: Range, usual: u32, n: Number) -> Taken
             thousandths,
             decimals,
         } => allow(k, unit, range, thousandths, decimals),
-        Number::Wrong => Taken::Bad,
+        Number::Wrong(_) => Taken::Bad,
     }
 }
 
@@ -191,16 +193,16 @@ fn flow(of: Pace, n: Number) -> Taken
             let range = Settings::flows(of);
             in_tenths(allow(3, 1, range, thousandths, decimals))
         }
-        Number::Wrong => Taken::Bad,
+        Number::Wrong(_) => Taken::Bad,
     }
 }
 
-fn move_by(way: Way, micro: bool, taken: Taken) -> Formed
-    ensures { λ r. ⌜ r ≡ made (moveBy way micro) taken ⌝ }
+fn move_by(read: usize, way: Way, micro: bool, taken: Taken) -> Formed
+    ensures { λ r. ⌜ r ≡ made read (moveBy way micro) taken ⌝ }
 {
     match taken {
         Taken::Good(amount) => Formed::Made(Command::Move(way, Volume { amount, micro })),
-        Taken::Bad => Formed::WrongOperand,
+        Taken::Bad => Formed::WrongOperand(read),
     }
 }
 
@@ -210,24 +212,25 @@ fn volume(way: Way, pair: Pair) -> Formed
 {
     let first = pair.first;
     let second = pair.second;
+    let read = pair.read;
     let unit = whole(Quantity::Choice, second);
     match unit {
         Taken::Good(unit) => {
             if unit == 0 {
-                return move_by(way, false, whole(Quantity::Increments, first));
+                return move_by(read, way, false, whole(Quantity::Increments, first));
             }
-            move_by(way, true, nanolitres(first))
+            move_by(read, way, true, nanolitres(first))
         }
-        Taken::Bad => Formed::WrongOperand,
+        Taken::Bad => Formed::WrongOperand(read),
     }
 }
 
-fn pace_by(pace: Pace, taken: Taken) -> Formed
-    ensures { λ r. ⌜ r ≡ made (Command.Speed pace) taken ⌝ }
+fn pace_by(read: usize, pace: Pace, taken: Taken) -> Formed
+    ensures { λ r. ⌜ r ≡ made read (Command.Speed pace) taken ⌝ }
 {
     match taken {
         Taken::Good(tenths) => Formed::Made(Command::Speed(pace, tenths)),
-        Taken::Bad => Formed::WrongOperand,
+        Taken::Bad => Formed::WrongOperand(read),
     }
 }
 
@@ -237,15 +240,16 @@ fn paced(pace: Pace, pair: Pair) -> Formed
 {
     let first = pair.first;
     let second = pair.second;
+    let read = pair.read;
     let unit = whole(Quantity::Choice, second);
     match unit {
         Taken::Good(unit) => {
             if unit == 0 {
-                return pace_by(pace, speed(pace, first));
+                return pace_by(read, pace, speed(pace, first));
             }
-            pace_by(pace, flow(pace, first))
+            pace_by(read, pace, flow(pace, first))
         }
-        Taken::Bad => Formed::WrongOperand,
+        Taken::Bad => Formed::WrongOperand(read),
     }
 }
 
@@ -255,11 +259,12 @@ fn slopes(pair: Pair) -> Formed
 {
     let first = pair.first;
     let second = pair.second;
+    let read = pair.read;
     let Taken::Good(up) = whole(Quantity::Slope, first) else {
-        return Formed::WrongOperand;
+        return Formed::WrongOperand(read);
     };
     let Taken::Good(down) = whole(Quantity::Slope, second) else {
-        return Formed::WrongOperand;
+        return Formed::WrongOperand(read);
     };
     Formed::Made(Command::Slopes(up, down))
 }
@@ -270,56 +275,65 @@ fn compensation(pair: Pair) -> Formed
 {
     let first = pair.first;
     let second = pair.second;
+    let read = pair.read;
     let Taken::Good(by) = whole(Quantity::Compensation, first) else {
-        return Formed::WrongOperand;
+        return Formed::WrongOperand(read);
     };
     let Taken::Good(way) = whole(Quantity::Choice, second) else {
-        return Formed::WrongOperand;
+        return Formed::WrongOperand(read);
     };
     let b = by as u16;
     Formed::Made(Command::Compensate(b, way == 1))
 }
 
 // W.
-fn home(n: Number) -> Formed
-    ensures { λ r. ⌜ r ≡ made Command.Initialise (wholeOf Quantity.Home n) ⌝ }
+fn home(only: Single) -> Formed
+    ensures { λ r. ⌜ r ≡ oneOf Command.Initialise Quantity.Home only ⌝ }
 {
+    let n = only.number;
+    let read = only.read;
     match whole(Quantity::Home, n) {
         Taken::Good(n) => {
             let speed = n as u16;
             Formed::Made(Command::Initialise(speed))
         }
-        Taken::Bad => Formed::WrongOperand,
+        Taken::Bad => Formed::WrongOperand(read),
     }
 }
 
 // K.
-fn backlash(n: Number) -> Formed
-    ensures { λ r. ⌜ r ≡ made Command.Backlash (wholeOf Quantity.Backlash n) ⌝ }
+fn backlash(only: Single) -> Formed
+    ensures { λ r. ⌜ r ≡ oneOf Command.Backlash Quantity.Backlash only ⌝ }
 {
+    let n = only.number;
+    let read = only.read;
     match whole(Quantity::Backlash, n) {
         Taken::Good(increments) => Formed::Made(Command::Backlash(increments)),
-        Taken::Bad => Formed::WrongOperand,
+        Taken::Bad => Formed::WrongOperand(read),
     }
 }
 
 // M.
-fn delay(n: Number) -> Formed
-    ensures { λ r. ⌜ r ≡ made Command.Delay (wholeOf Quantity.Delay n) ⌝ }
+fn delay(only: Single) -> Formed
+    ensures { λ r. ⌜ r ≡ oneOf Command.Delay Quantity.Delay only ⌝ }
 {
+    let n = only.number;
+    let read = only.read;
     match whole(Quantity::Delay, n) {
         Taken::Good(ms) => Formed::Made(Command::Delay(ms)),
-        Taken::Bad => Formed::WrongOperand,
+        Taken::Bad => Formed::WrongOperand(read),
     }
 }
 
 // G.
-fn close(n: Number) -> Formed
-    ensures { λ r. ⌜ r ≡ made Command.Close (wholeOf Quantity.Passes n) ⌝ }
+fn close(only: Single) -> Formed
+    ensures { λ r. ⌜ r ≡ oneOf Command.Close Quantity.Passes only ⌝ }
 {
+    let n = only.number;
+    let read = only.read;
     match whole(Quantity::Passes, n) {
         Taken::Good(passes) => Formed::Made(Command::Close(passes)),
-        Taken::Bad => Formed::WrongOperand,
+        Taken::Bad => Formed::WrongOperand(read),
     }
 }
 
@@ -330,7 +344,7 @@ fn opened(t: &[u8]) -> Formed
     if t.len() == 0 {
         return Formed::Made(Command::Open);
     }
-    Formed::WrongOperand
+    Formed::WrongOperand(0)
 }
 
 // What a letter and its operand text make.
@@ -338,15 +352,15 @@ fn form(letter: Letter, t: &[u8]) -> Formed
     ensures { λ r. ⌜ r ≡ commandOf letter (now (t .entry)) ⌝ }
 {
     match letter {
-        Letter::Home => home(operand::one(t)),
+        Letter::Home => home(operand::only(t)),
         Letter::Volume(way) => volume(way, operand::two(t)),
         Letter::Speed(pace) => paced(pace, operand::two(t)),
         Letter::Slopes => slopes(operand::two(t)),
-        Letter::Backlash => backlash(operand::one(t)),
+        Letter::Backlash => backlash(operand::only(t)),
         Letter::Compensation => compensation(operand::two(t)),
-        Letter::Delay => delay(operand::one(t)),
+        Letter::Delay => delay(operand::only(t)),
         Letter::Open => opened(t),
-        Letter::Close => close(operand::one(t)),
+        Letter::Close => close(operand::only(t)),
         Letter::Other => Formed::NoLetter,
     }
 }
@@ -359,7 +373,7 @@ fn place(at: usize, from: usize, next: usize, formed: Formed) -> Found
     match formed {
         Formed::Made(c) => Found::Command(c, next),
         Formed::NoLetter => Found::Refused(Misread::Letter(at)),
-        Formed::WrongOperand => Found::Refused(Misread::Operand(from)),
+        Formed::WrongOperand(read) => Found::Refused(Misread::Operand { place: from, read }),
     }
 }
 

@@ -1,13 +1,13 @@
 // Why something is refused, and 01's number for it.
 ghost use mathlib.Core.Path.{_≡_};
-ghost use Rattle.command.specs.Numbers.{refusalNumber, verdictNumber, firstOf};
+ghost use Rattle.command.specs.Numbers.{refusalNumber, columnAt, refusalColumn, verdictNumber, firstOf};
 
 // The first wrong place of a text.
 pub enum Misread {
     // A letter that is not allowed here, at its place.
     Letter(usize),
-    // A wrong operand text, where it begins.
-    Operand(usize),
+    // A wrong operand text: where it begins, and how many of its characters were read.
+    Operand { place: usize, read: usize },
 }
 
 pub enum Refusal {
@@ -31,13 +31,33 @@ pub enum Verdict {
     Refused(Refusal),
 }
 
+// The column of a place, counted from 1; data have 320 characters at most.
+fn column_at(place: usize) -> u32
+    ensures { λ r. ⌜ r ≡ columnAt place ⌝ }
+{
+    if 320 < place {
+        return 321;
+    }
+    let before = place as u32;
+    before + 1
+}
+
 impl Misread {
+    fn column(self) -> u32
+        ensures { λ r. ⌜ r ≡ refusalColumn (Refusal.Misread self) ⌝ }
+    {
+        match self {
+            Misread::Letter(place) => column_at(place),
+            Misread::Operand { place, read: _ } => column_at(place),
+        }
+    }
+
     pub fn number(self) -> u8
         ensures { λ r. ⌜ r ≡ refusalNumber (Refusal.Misread self) ⌝ }
     {
         match self {
             Misread::Letter(_) => 2,
-            Misread::Operand(_) => 3,
+            Misread::Operand { place: _, read: _ } => 3,
         }
     }
 }
@@ -56,6 +76,22 @@ impl Refusal {
             Refusal::NothingToRun => 14,
             Refusal::TooLong => 15,
             Refusal::Busy => 15,
+        }
+    }
+
+    // Where a string is wrong, from 1; 0 for every other refusal.
+    pub fn column(self) -> u32
+        ensures { λ r. ⌜ r ≡ refusalColumn self ⌝ }
+    {
+        match self {
+            Refusal::Misread(m) => m.column(),
+            Refusal::Report => 0,
+            Refusal::Loops => 0,
+            Refusal::Outside => 0,
+            Refusal::NotInitialised => 0,
+            Refusal::NothingToRun => 0,
+            Refusal::TooLong => 0,
+            Refusal::Busy => 0,
         }
     }
 }

@@ -90,7 +90,7 @@ fn command(c: Command) {
 fn at(r: Misread) -> usize {
     match r {
         Misread::Letter(place) => place,
-        Misread::Operand(place) => place,
+        Misread::Operand { place, read: _ } => place,
     }
 }
 

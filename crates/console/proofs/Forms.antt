@@ -16,6 +16,7 @@ use Rattle.operand.specs.declared.Class.the-variants.{Digit}
 use Rattle.operand.specs.declared.Number.{Number}
 use Rattle.operand.specs.declared.Number.the-variants as N
 use Rattle.operand.specs.Text.{run, rest}
+use Rattle.operand.specs.Begins.{readIn}
 use Rattle.operand.specs.Number.{digits, decimalsOf, followedOf, numberOf}
 use Rattle.operand.proofs.Runs.{run-rest, run-digits, run-all}
 use Rattle.desk.specs.declared.Asked.{Asked}
@@ -71,17 +72,17 @@ data Ticked (ds : List ℕ) : Asked → Type 0 where
   count : (n : ℕ) → Counts ds n → Ticked ds (Ticks n)
   none : Ticked ds Wrong
 
-whole-counted : (n : ℕ) → countedOf (followedOf n []) ≡ (if leb n 60000 then Ticks n else Wrong)
+whole-counted : (read n : ℕ) → countedOf (followedOf read n []) ≡ (if leb n 60000 then Ticks n else Wrong)
 unfolding countedOf followedOf
-whole-counted n = let e : n * 1000 / 1000 ≡ n = omega arith in rw e
+whole-counted read n = let e : n * 1000 / 1000 ≡ n = omega arith in rw e
 
-wrong-counted : countedOf N.Wrong ≡ Wrong
+wrong-counted : (read : ℕ) → countedOf (N.Wrong read) ≡ Wrong
 unfolding countedOf
-wrong-counted = refl
+wrong-counted read = refl
 
-pointed : (n b : ℕ) (u : List ℕ) → countedOf (followedOf n (b ∷ u)) ≡ Wrong
+pointed : (read n b : ℕ) (u : List ℕ) → countedOf (followedOf read n (b ∷ u)) ≡ Wrong
 unfolding countedOf followedOf decimalsOf
-pointed n b u =
+pointed read n b u =
     by (λ (x : Number). countedOf x ≡ Wrong) (eqb b 46)
     (λ e. by (λ (x : Number). countedOf x ≡ Wrong) (digits 1 3 u) (λ d. rw (ne-eqb (length u) 0 (λ z. omega (arith, some-digits 1 3 u d .0)))) (λ d. refl))
     (λ e. refl)
@@ -108,11 +109,11 @@ ticked (d ∷ ds) = go (eqb d zeroDigit) refl (digits 1 6 (run Digit (d ∷ ds))
     last false l e y r = none
 
     go : (x : Bool) → eqb d zeroDigit ≡ x → (y : Bool) → digits 1 6 (run Digit (d ∷ ds)) ≡ y → (r : List ℕ) → rest Digit (d ∷ ds) ≡ r →
-        Ticked (d ∷ ds) (if x then Wrong else countedOf (if y then followedOf (valueOf (run Digit (d ∷ ds))) r else N.Wrong))
+        Ticked (d ∷ ds) (if x then Wrong else countedOf (if y then followedOf (readIn (d ∷ ds)) (valueOf (run Digit (d ∷ ds))) r else N.Wrong (readIn (d ∷ ds))))
     go true e y q r p = none
-    go false e false q r p = rw wrong-counted none
-    go false e true q [] p = rw (whole-counted (valueOf (run Digit (d ∷ ds)))) (last (leb (valueOf (run Digit (d ∷ ds))) 60000) refl e q p)
-    go false e true q (b ∷ u) p = rw (pointed (valueOf (run Digit (d ∷ ds))) b u) none
+    go false e false q r p = rw (wrong-counted (readIn (d ∷ ds))) none
+    go false e true q [] p = rw (whole-counted (readIn (d ∷ ds)) (valueOf (run Digit (d ∷ ds)))) (last (leb (valueOf (run Digit (d ∷ ds))) 60000) refl e q p)
+    go false e true q (b ∷ u) p = rw (pointed (readIn (d ∷ ds)) (valueOf (run Digit (d ∷ ds))) b u) none
 
 -- a line by its form
 data Formed : List ℕ → Asked → Type 0 where
@@ -144,7 +145,7 @@ unfolding ticksOf numberOf
 counted [] n c = absurd (omega (arith, c .some))
 counted (d ∷ ds) n c =
     let w = run-all Digit (d ∷ ds) (c .digits-only) in
-    rw (ne-eqb d zeroDigit (c .no-leading-zero), w, digits-enough (d ∷ ds) (c .digits-only) (c .some) (c .few), rest-none (d ∷ ds) (c .digits-only), whole-counted (valueOf (d ∷ ds)), c .number, le-leb n 60000 (c .most))
+    rw (ne-eqb d zeroDigit (c .no-leading-zero), w, digits-enough (d ∷ ds) (c .digits-only) (c .some) (c .few), rest-none (d ∷ ds) (c .digits-only), whole-counted (readIn (d ∷ ds)) (valueOf (d ∷ ds)), c .number, le-leb n 60000 (c .most))
 
 sending : (t : List ℕ) (x : Asked) → Formed t x → isSend x ≡ true → Clean t → Sends t
 sending t x (sends text) h c = record { clean = c; text = text; form = refl }

@@ -38,6 +38,8 @@ use Rattle.pipettor.specs.Address.{addressOf}
 use Rattle.pipettor.specs.Byte.{After, saidOf, writtenOf, dealtOf, heardOf, byteOf}
 use Rattle.pipettor.specs.Controller.{tickedOf, stoppedOf, advancedOf, runOf}
 use Rattle.frames.proofs.Calls.{a-short-buffer-is-s1, s1-changes-nothing, an-address-outside-1-to-9-is-s2, more-than-60000-ticks-are-s3}
+use Rattle.frames.proofs.Columns.{the-stop-leaves-the-column}
+use Rattle.frames.proofs.Ticks.{a-tick-leaves-the-column-unless-the-run-fails, an-error-in-a-run-has-no-column}
 use Rattle.demands.specs.Calls.{Call, after}
 use Rattle.demands.specs.Values.{Handed, number, S, saidIs, givenIs, usedIs}
 use Rattle.demands.specs.Demands.{Counted, Written, Answers, Makes, TotalityAndRefusals, Position, Moves}
@@ -113,6 +115,9 @@ every-controller-answers a calls =
       a-run-meets-a-command = λ is. a-run-meets-a-command (k .device .text) (k .device .core .course) is (sound .on-course);
       a-run-fails-by-7-or-3 = λ doing is empty. a-run-fails-by-7-or-3-only (k .device .text) (k .device .core) doing is (sound .on-course) empty;
       a-command-that-must-fail-fails = λ command next why is found must. rw (a-command-that-must-fail-fails (k .device .text) (k .device .core) command next why is found must);
+      an-error-in-a-run-has-no-column = an-error-in-a-run-has-no-column k;
+      any-other-tick-leaves-the-column = a-tick-leaves-the-column-unless-the-run-fails k;
+      the-stop-leaves-the-column = the-stop-leaves-the-column k;
       a-cut-W-leaves-it-uninitialised = λ t is. a-cut-W-leaves-the-plunger-uninitialised t (k .device .core) is (sound .homes);
     }
 

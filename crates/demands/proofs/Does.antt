@@ -13,7 +13,7 @@ use Rattle.basics.specs.Lay.{over}
 use Rattle.basics.proofs.Choice.{by}
 use Rattle.command.specs.declared.refusal.Refusal.{Refusal}
 use Rattle.command.specs.declared.refusal.Refusal.the-variants as R
-use Rattle.command.specs.Numbers.{refusalNumber}
+use Rattle.command.specs.Numbers.{refusalNumber, refusalColumn}
 use Rattle.text.specs.declared.Data.{Data}
 use Rattle.text.specs.declared.Data.the-variants as D
 use Rattle.text.specs.declared.Control.{Control}
@@ -47,7 +47,7 @@ use Rattle.demands.specs.Calls.{Call, ticksEvents, ticksUsed, callOf}
 -- what a call does to a device
 pub data Does (d : Device) : Turn Device → Type 0 where
   none : Does d (quiet d)
-  new-error : (why : Refusal) → Does d (quiet (device (d .text) (coreError (refusalNumber why) (d .core))))
+  new-error : (why : Refusal) → Does d (quiet (device (d .text) (coreError (refusalNumber why) (refusalColumn why) (d .core))))
   call : (k : Machine.Call) → SentBy k → Does d (Machine.callOf k d)
   ticks : (n : ℕ) → Does d (record { next = advanceOf n d .device; events = ticksEvents n d })
 

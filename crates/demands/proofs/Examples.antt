@@ -56,7 +56,10 @@ examples =
     -- the whole case of the bench program
     ∷ ("WR" answers "@" ∷ 1 ticks 0 exact 0 ∷ "P0.01,1P0.01,1R" answers "@" ∷ 4 ticks 1 exact 800000 ∷ "?0" answers "`1" ∷ [])
     -- "Q the last error .. f the address": every report after every setting is changed; X; a cut W and then P; !R, and every setting again
-    ∷ ("Wv300c400L5,6K7b350A1000R" answers "@" ∷ 25 ticks 1000 exact 1000000000 ∷ "?1" answers "`1000" ∷ "?3" answers "`24.783" ∷ "?4" answers "`7" ∷ "?6" answers "`300.0" ∷ "?7" answers "`8000.0" ∷ "?8" answers "`400.0" ∷ "?9" answers "`5" ∷ "?10" answers "`6" ∷ "?16" answers "`44000" ∷ "?17" answers "`1100" ∷ "?18" answers "`7.500" ∷ "?19" answers "`200.000" ∷ "?20" answers "`10.000" ∷ "?29" answers "`0" ∷ "?67" answers "`0" ∷ "?2" answers "c" ∷ "Q2" answers "c" ∷ "Qx" answers "c" ∷ "?1.0" answers "c" ∷ "?1,0" answers "c" ∷ "?" answers "`1000" ∷ "Q1" answers "`@" ∷ "f" answers "`1" ∷ "f1" answers "c" ∷ "!X" answers "b" ∷ "X" answers "@" ∷ 3 ticks 880 exact 0 ∷ "?0" answers "@0" ∷ "?1" answers "@880" ∷ "?29" answers "@1" ∷ "?67" answers "@1" ∷ "T" answers "`" ∷ "?67" answers "`1" ∷ "P1R" answers "@" ∷ 1 ticks 880 exact 880000000 ∷ "Q1" answers "gG" ∷ "?67" answers "g0" ∷ "!R" answers "`" ∷ "?4" answers "`0" ∷ "?6" answers "`1000.0" ∷ "?8" answers "`8000.0" ∷ "?10" answers "`20" ∷ "A1R" answers "@" ∷ 1 ticks 880 exact 880000000 ∷ "Q" answers "g" ∷ [])
+    ∷ ("Wv300c400L5,6K7b350A1000R" answers "@" ∷ 25 ticks 1000 exact 1000000000 ∷ "?1" answers "`1000" ∷ "?3" answers "`24.783" ∷ "?4" answers "`7" ∷ "?6" answers "`300.0" ∷ "?7" answers "`8000.0" ∷ "?8" answers "`400.0" ∷ "?9" answers "`5" ∷ "?10" answers "`6" ∷ "?16" answers "`44000" ∷ "?17" answers "`1100" ∷ "?18" answers "`7.500" ∷ "?19" answers "`200.000" ∷ "?20" answers "`10.000" ∷ "?29" answers "`0" ∷ "?67" answers "`0" ∷ "?2" answers "c" ∷ "Q2" answers "`0" ∷ "Q3" answers "c" ∷ "Qx" answers "c" ∷ "?1.0" answers "c" ∷ "?1,0" answers "c" ∷ "?" answers "`1000" ∷ "Q1" answers "`@" ∷ "f" answers "`1" ∷ "f1" answers "c" ∷ "!X" answers "b" ∷ "X" answers "@" ∷ 3 ticks 880 exact 0 ∷ "?0" answers "@0" ∷ "?1" answers "@880" ∷ "?29" answers "@1" ∷ "?67" answers "@1" ∷ "T" answers "`" ∷ "?67" answers "`1" ∷ "P1R" answers "@" ∷ 1 ticks 880 exact 880000000 ∷ "Q1" answers "gG" ∷ "?67" answers "g0" ∷ "!R" answers "`" ∷ "?4" answers "`0" ∷ "?6" answers "`1000.0" ∷ "?8" answers "`8000.0" ∷ "?10" answers "`20" ∷ "A1R" answers "@" ∷ 1 ticks 880 exact 880000000 ∷ "Q" answers "g" ∷ [])
+    -- 02, W-202, "Which column is wrong": a letter, an operand text, a control with more; a report, refused or not, leaves it; an accepted string, a loop refusal, !R and an error in a run make it 0
+    ∷ ("TA1" answers "b" ∷ "Q2" answers "b1" ∷ "A5RA1" answers "b" ∷ "Q2" answers "b3" ∷ "Q3" answers "c" ∷ "Q2" answers "b3" ∷ " A 5 Z" answers "b" ∷ "Q2" answers "b3" ∷ "A5,1.0" answers "c" ∷ "Q2" answers "c2" ∷ "A5Wg5" answers "c" ∷ "Q2" answers "c5" ∷ "A5L" answers "`" ∷ "Q2" answers "`0" ∷ [])
+    ∷ ("A44001Z" answers "c" ∷ "Q2" answers "c2" ∷ "G2R" answers "c" ∷ "Q2" answers "c0" ∷ "Z" answers "b" ∷ "!R" answers "`" ∷ "Q2" answers "`0" ∷ "A1R" answers "@" ∷ "Z" answers "B" ∷ "Q2" answers "B1" ∷ 1 ticks 0 exact 0 ∷ "Q2" answers "g0" ∷ [])
     -- "X: from Done, runs the text again": the fraction of the first run is kept
     ∷ ("WR" answers "@" ∷ 1 ticks 0 exact 0 ∷ "P0.01,1R" answers "@" ∷ 1 ticks 0 exact 400000 ∷ "X" answers "@" ∷ 2 ticks 1 exact 800000 ∷ [])
     -- the goal in a delay is the plunger

@@ -15,6 +15,7 @@ use Rattle.pipettor.specs.Byte.{byteOf}
 use Rattle.frames.specs.Frame.{exchangeOf, givenOf}
 use Rattle.frames.proofs.Frames.{a-whole-frame-is-an-exchange, other-bytes-do-nothing}
 use Rattle.frames.proofs.Listening.{listening-is-hearing-byte-by-byte}
+use Rattle.frames.proofs.Columns.{what-a-column-means}
 use Rattle.frames.proofs.Refusals as Refusals
 use Rattle.demands.specs.Calls.{callOf, answerOf, afterOf, eventsOf, answersOf}
 use Rattle.demands.specs.Frames.{last, frameSeen, Treated, Hears, giving, Gives}
@@ -37,6 +38,7 @@ an-exchange-is-treated-by-the-table ds a d buf =
       answered = Refusals.every-frame-is-answered ds a d buf;
       a-refused-frame-leaves-the-error-only = Refusals.a-refused-frame-leaves-the-error-only ds a d buf;
       an-accepted-frame-clears-the-error = Refusals.an-accepted-frame-clears-the-error ds a d buf;
+      column = what-a-column-means ds a d buf;
       a-report-leaves-everything = Refusals.reports-leave-everything ds a d buf;
     }
 

@@ -35,7 +35,7 @@ use Rattle.pipettor.specs.Byte.{After, Exchange, actionOf, taskOf, performedOf,
 use Rattle.pipettor.specs.Controller.{madeOf, tickedOf, stoppedOf, advancedOf, runOf}
 use Rattle.pipettor.specs.Listening.{listenedOf}
 use Rattle.frames.specs.Frame.{addedOf, exchangeOf}
-use Rattle.frames.specs.Refused.{numberFor, refusalOf, isReport}
+use Rattle.frames.specs.Refused.{numberFor, refusalOf, isReport, columnAfter}
 use Rattle.frames.specs.Limits.{wholeOf}
 use Rattle.frames.proofs.Calls.{s1-changes-nothing}
 use Rattle.frames.proofs.Refusals.{a-refused-frame-leaves-the-error-only, reports-leave-everything}
@@ -97,11 +97,11 @@ module _ (a : Address) (calls : List Call) where
 
 -- R and T, in a device that has a text stored
 module _ (added : List ℕ) (d : Device) (stored : d .core .course .state ≡ Stored) where
-  begins : verdictFor A.Run added d ≡ Fine → actOf A.Run added d .next .device ≡ device (d .text) (core (d .core .body) (withError 0 (begun (d .core .course .len) (d .core .course))))
+  begins : verdictFor A.Run added d ≡ Fine → actOf A.Run added d .next .device ≡ device (d .text) (core (d .core .body) (withError 0 0 (begun (d .core .course .len) (d .core .course))))
   unfolding actOf actedOf doneOf changedOf storedBy laidBy cellOf
   begins ok = rw (ok, stored)
 
-  stays : actOf A.Stop added d .next .device ≡ device (d .text) (coreError 0 (d .core))
+  stays : actOf A.Stop added d .next .device ≡ device (d .text) (coreError 0 0 (d .core))
   unfolding actOf actedOf doneOf changedOf stopOf haltOf storedBy laidBy cellOf verdictOf loopsBy
   stays = rw stored
 
@@ -134,7 +134,7 @@ module _ (ds : List ℕ) (a : Address) (d : Device) (buf text : List ℕ) (k : K
       let left = a-refused-frame-leaves-the-error-only ds a d buf why in
       go (isReport (receivedOf ds)) (left .core) (left .text)
     where
-      go : (x : Bool) → next .core ≡ (if x then d .core else coreError (refusalOf ds a d) (d .core)) → next .text ≡ d .text → Keeps text next
+      go : (x : Bool) → next .core ≡ (if x then d .core else coreError (refusalOf ds a d) (columnAfter (receivedOf ds) (d .core .course .misread)) (d .core)) → next .text ≡ d .text → Keeps text next
       go true c t = record { stored = rw c (k .stored); whole = rw (c, t) (k .whole) }
       go false c t = record { stored = rw c (k .stored); whole = rw (c, t) (k .whole) }
 

@@ -115,14 +115,14 @@ stored-by added d ready run o front e (refuses why other) ok =
     absurd (omega arith)
 
 -- and its course: it waits, or runs from its start, with no loop open and no error
-started : (run : Bool) (m : ℕ) (c : Course) → withError 0 (if run then begun m c else waiting m c) ≡ courseOf 0 m noLoops (waitsOrRuns run) 0
+started : (run : Bool) (m : ℕ) (c : Course) → withError 0 0 (if run then begun m c else waiting m c) ≡ courseOf 0 m noLoops (waitsOrRuns run) 0 0
 started true m c = refl
 started false m c = refl
 
 course-by :
     (added : List ℕ) (d : Device) (run : Bool) (o : Order) (front : List ℕ) → orderOf (stringAction run) (d .core .course .state) ≡ o →
     Loads run (held d) o front → verdictFor (stringAction run) added d ≡ Fine →
-    (m : ℕ) × (actOf (stringAction run) added d .next .device .core .course ≡ courseOf 0 m noLoops (waitsOrRuns run) 0)
+    (m : ℕ) × (actOf (stringAction run) added d .next .device .core .course ≡ courseOf 0 m noLoops (waitsOrRuns run) 0 0)
 unfolding verdictOf actOf actedOf doneOf
 course-by added d run o front e joins ok = (d .core .course .len + length added, rw (ok, e) (started run (d .core .course .len + length added) (d .core .course)))
 course-by added d run o front e replaces ok = (0 + length added, rw (ok, e) (started run (0 + length added) (d .core .course)))
@@ -169,7 +169,7 @@ module _ (ds : List ℕ) (n : ℕ) (run : Bool) (string : receivedOf ds ≡ D.Te
       rw acts (stored-by (body (spaceless ds)) d ready run (orderOf (stringAction run) s) (frontOf s (held d)) refl (loads run s (held d)) (is-fine e))
 
   pub an-accepted-string-waits-or-runs-from-its-start :
-      refusalOf ds a d ≡ 0 → (m : ℕ) × (exchangeOf ds a d buf .next .device .core .course ≡ courseOf 0 m noLoops (waitsOrRuns run) 0)
+      refusalOf ds a d ≡ 0 → (m : ℕ) × (exchangeOf ds a d buf .next .device .core .course ≡ courseOf 0 m noLoops (waitsOrRuns run) 0 0)
   unfolding Machine.callOf
   an-accepted-string-waits-or-runs-from-its-start e =
       let s = d .core .course .state in

@@ -110,6 +110,9 @@ settings-Volume-millionths κs args z z′ ws ws′ p q = result p q
 pub operand-one : Tight operand.one.Kinds.ps operand.one.Kinds.r operand.one.Reads.Learnt
 operand-one κs args z z′ ws ws′ p q = result p q
 
+pub operand-only : Tight operand.only.Kinds.ps operand.only.Kinds.r operand.only.Reads.Learnt
+operand-only κs args z z′ ws ws′ p q = result p q
+
 pub operand-two : Tight operand.two.Kinds.ps operand.two.Kinds.r operand.two.Reads.Learnt
 operand-two κs args z z′ ws ws′ p q = result p q
 
@@ -122,6 +125,9 @@ command-refusal-Misread-number κs args z z′ ws ws′ p q = result p q
 
 pub command-refusal-Refusal-number : Tight command.refusal.Refusal.number.Kinds.ps command.refusal.Refusal.number.Kinds.r command.refusal.Refusal.number.Reads.Learnt
 command-refusal-Refusal-number κs args z z′ ws ws′ p q = result p q
+
+pub command-refusal-Refusal-column : Tight command.refusal.Refusal.column.Kinds.ps command.refusal.Refusal.column.Kinds.r command.refusal.Refusal.column.Reads.Learnt
+command-refusal-Refusal-column κs args z z′ ws ws′ p q = result p q
 
 pub command-refusal-Verdict-number : Tight command.refusal.Verdict.number.Kinds.ps command.refusal.Verdict.number.Kinds.r command.refusal.Verdict.number.Reads.Learnt
 command-refusal-Verdict-number κs args z z′ ws ws′ p q = result p q

@@ -90,6 +90,10 @@ pub record Answers (k : Controller) : Type 0 where
       (command : Command) (next : ℕ) (why : Refusal) → k .device .core .course .state ≡ Running Between → nextCommand (k .device) ≡ F.Command command next →
       Failing command (k .device .core .body) why →
       tickedOf k .next ≡ record { controller = on (device (k .device .text) (core (k .device .core .body) (failedOf why (k .device .core .course)))) k; failed = Refused why }
+  -- 02, W-202: "It is 0 after .. an error in a run"; no other tick changes it, nor the host's stop
+  pub an-error-in-a-run-has-no-column : (why : Refusal) → tickedOf k .next .failed ≡ Refused why → tickedOf k .next .controller .device .core .course .misread ≡ 0
+  pub any-other-tick-leaves-the-column : tickedOf k .next .failed ≡ Fine → tickedOf k .next .controller .device .core .course .misread ≡ k .device .core .course .misread
+  pub the-stop-leaves-the-column : stoppedOf k .next .device .core .course .misread ≡ k .device .core .course .misread
   -- "a cut W leaves us uninitialised"
   pub a-cut-W-leaves-it-uninitialised : (t : Travel) → k .device .core .course .state ≡ Running (Initialising t) → stoppedOf k .next .device .core .body .initialised ≡ false
 

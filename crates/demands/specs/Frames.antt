@@ -17,7 +17,7 @@ use Rattle.pipettor.specs.declared.Said.the-variants.{Silent}
 use Rattle.pipettor.specs.Address.{letterOf}
 use Rattle.pipettor.specs.Byte.{Exchange, byteOf}
 use Rattle.frames.specs.Frame.{addedOf, exchangeOf, Dialogue, givenOf, ToUs, Unheeded, Others}
-use Rattle.frames.specs.Refused.{refusalOf, isReport, Replied, Refused, Unchanged, Known, WrongLetter, WrongNumber, NothingNow, TooMuchNow}
+use Rattle.frames.specs.Refused.{refusalOf, isReport, Replied, Refused, Unchanged, Known, WrongLetter, WrongNumber, NothingNow, TooMuchNow, Columned}
 use Rattle.frames.specs.Listening.{ByteByByte}
 use Rattle.demands.specs.Calls.{lent, Call, byte, Answered, said, taken, failed, used, nothing, afterOf, eventsOf, answersOf, after, history, answers}
 use Rattle.demands.specs.Contracts.{Program, leftBy, answeredBy}
@@ -58,6 +58,8 @@ pub record Treated (ds : List ℕ) (a : Address) (d : Device) (buf : List ℕ) (
   pub a-refused-frame-leaves-the-error-only : (refusalOf ds a d ≡ 0 → ⊥) → Refused (receivedOf ds) (refusalOf ds a d) d e
   -- "An accepted frame that isn't a report sets it to 0"
   pub an-accepted-frame-clears-the-error : isReport (receivedOf ds) ≡ false → refusalOf ds a d ≡ 0 → e .next .device .core .course .error ≡ 0
+  -- 02, W-202: what Q2 tells after it
+  pub column : Columned ds a d e
   -- "Reports never change it"
   pub a-report-leaves-everything : isReport (receivedOf ds) ≡ true → Unchanged d e
 

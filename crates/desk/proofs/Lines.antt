@@ -46,9 +46,9 @@ module _ (n : Number) where
   unfolding countedOf
   absent e = rw e
 
-  pub no-number : n ≡ N.Wrong → Wrong ≡ countedOf n
+  pub no-number : (read : ℕ) → n ≡ N.Wrong read → Wrong ≡ countedOf n
   unfolding countedOf
-  no-number e = rw e
+  no-number read e = rw e
 
   module _ (v d : ℕ) (e : n ≡ N.Is v d) where
     pub pointed : (d ≡ 0 → ⊥) → Wrong ≡ countedOf n

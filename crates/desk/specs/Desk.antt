@@ -18,7 +18,7 @@ use Rattle.desk.specs.declared.Asked.the-variants.{Send, Ticks, Wrong}
 unfoldable pub countedOf : Number → Asked
 countedOf N.Absent = Wrong
 countedOf (N.Is n decimals) = if eqb decimals 0 && leb (n / 1000) 60000 then Ticks (n / 1000) else Wrong
-countedOf N.Wrong = Wrong
+countedOf (N.Wrong read) = Wrong
 
 unfoldable pub ticksOf : List ℕ → Asked
 ticksOf [] = Wrong

@@ -46,7 +46,7 @@ fn counted(n: Number) -> Asked
             }
             Asked::Ticks(k)
         }
-        Number::Wrong => Asked::Wrong,
+        Number::Wrong(_) => Asked::Wrong,
     }
 }
 

@@ -41,16 +41,16 @@ module _ (a : Address) (d : Device) (buf : List ℕ) where
   left ds = exchangeOf ds a d buf .next .device .core
 
   -- "X: from Done, runs the text again"
-  pub X-in-Done-runs-the-text-again : d .core .course .state ≡ Done → left (88 ∷ []) ≡ core (d .core .body) (courseOf 0 (d .core .course .len) noLoops (Running Between) 0)
+  pub X-in-Done-runs-the-text-again : d .core .course .state ≡ Done → left (88 ∷ []) ≡ core (d .core .body) (courseOf 0 (d .core .course .len) noLoops (Running Between) 0 0)
   unfolding exchangeOf dealtOf receivedOf spaceless dataOf controlOf taskOf performedOf actOf cellOf loopsBy verdictOf actedOf doneOf changedOf
   X-in-Done-runs-the-text-again e = rw e
 
   -- "C: Empty; in Running 15."
-  pub C-empties : readyIn (d .core .course .state) ≡ true → left (67 ∷ []) ≡ core (d .core .body) (courseOf 0 0 noLoops Empty 0)
+  pub C-empties : readyIn (d .core .course .state) ≡ true → left (67 ∷ []) ≡ core (d .core .body) (courseOf 0 0 noLoops Empty 0 0)
   unfolding exchangeOf dealtOf receivedOf spaceless dataOf controlOf taskOf performedOf actOf cellOf loopsBy verdictOf actedOf doneOf changedOf
   C-empties r = go (d .core .course .state) refl r
     where
-      go : (s : State) → d .core .course .state ≡ s → readyIn s ≡ true → left (67 ∷ []) ≡ core (d .core .body) (courseOf 0 0 noLoops Empty 0)
+      go : (s : State) → d .core .course .state ≡ s → readyIn s ≡ true → left (67 ∷ []) ≡ core (d .core .body) (courseOf 0 0 noLoops Empty 0 0)
       go (Running k) e h = absurd (false≢true h)
       go Empty e h = rw e
       go Stored e h = rw e
@@ -58,7 +58,7 @@ module _ (a : Address) (d : Device) (buf : List ℕ) where
       go Done e h = rw e
 
   -- T, in any state: what the host's stop does, and no error
-  pub T-stops : left (84 ∷ []) ≡ coreError 0 (stopOf (d .core) .next)
+  pub T-stops : left (84 ∷ []) ≡ coreError 0 0 (stopOf (d .core) .next)
   unfolding exchangeOf dealtOf receivedOf spaceless dataOf controlOf taskOf performedOf actOf cellOf loopsBy verdictOf actedOf doneOf changedOf
   T-stops = refl
 
@@ -77,14 +77,14 @@ module _ (a : Address) (d : Device) (buf : List ℕ) where
   -- "!R in any state: Empty, default settings, uninitialised, no error; the plunger stays."
   pub reset-in-any-state :
       left (33 ∷ 82 ∷ []) ≡
-      core (record { plunger = d .core .body .plunger; exact = atPlunger (d .core .body); initialised = false; settings = usualSettings }) (courseOf 0 0 noLoops Empty 0)
+      core (record { plunger = d .core .body .plunger; exact = atPlunger (d .core .body); initialised = false; settings = usualSettings }) (courseOf 0 0 noLoops Empty 0 0)
   unfolding exchangeOf dealtOf receivedOf spaceless dataOf controlOf taskOf performedOf actOf cellOf loopsBy verdictOf actedOf doneOf changedOf resetOf
   reset-in-any-state = refl
 
   -- "Fresh: plunger and exact position 0, as after reset."
   pub fresh-is-as-after-a-reset-at-0 : d .core .body .plunger ≡ 0 → left (33 ∷ 82 ∷ []) ≡ freshOf .next .core
   unfolding freshOf freshBody
-  fresh-is-as-after-a-reset-at-0 e = reset-in-any-state ∙ ap (λ (p : ℕ). core (record { plunger = p; exact = p * 1000000; initialised = false; settings = usualSettings }) (courseOf 0 0 noLoops Empty 0)) e
+  fresh-is-as-after-a-reset-at-0 e = reset-in-any-state ∙ ap (λ (p : ℕ). core (record { plunger = p; exact = p * 1000000; initialised = false; settings = usualSettings }) (courseOf 0 0 noLoops Empty 0 0)) e
 
   -- every frame but T and !R leaves the plunger, the exact position, "initialised" and the settings alone, and the history: they change by ticks
   record Untouched (e : Turn Exchange) : Type 0 where

@@ -67,42 +67,42 @@ named-are-the-letters b =
 -- a letter of the table makes a command or refuses its operand text; no other does
 abbrev lettered : Formed → Bool
 lettered (Made c) = true
-lettered WrongOperand = true
+lettered (WrongOperand read) = true
 lettered NoLetter = false
 
-lettered-one : (f : ℕ → Command) (x : Taken) → lettered (made f x) ≡ true
+lettered-one : (read : ℕ) (f : ℕ → Command) (x : Taken) → lettered (made read f x) ≡ true
 unfolding made
-lettered-one f (Good n) = refl
-lettered-one f Bad = refl
+lettered-one read f (Good n) = refl
+lettered-one read f Bad = refl
 
-lettered-two : (f : ℕ → ℕ → Command) (x y : Taken) → lettered (both f x y) ≡ true
+lettered-two : (read : ℕ) (f : ℕ → ℕ → Command) (x y : Taken) → lettered (both read f x y) ≡ true
 unfolding both
-lettered-two f (Good a) (Good b) = refl
-lettered-two f (Good a) Bad = refl
-lettered-two f Bad y = refl
+lettered-two read f (Good a) (Good b) = refl
+lettered-two read f (Good a) Bad = refl
+lettered-two read f Bad y = refl
 
-lettered-unit : (u x y : Taken) (f g : ℕ → Command) → lettered (inUnit u (made f x) (made g y)) ≡ true
+lettered-unit : (read : ℕ) (u x y : Taken) (f g : ℕ → Command) → lettered (inUnit read u (made read f x) (made read g y)) ≡ true
 unfolding inUnit
-lettered-unit (Good n) x y f g = by (λ r. lettered r ≡ true) (eqb n 0) (λ _. lettered-one f x) (λ _. lettered-one g y)
-lettered-unit Bad x y f g = refl
+lettered-unit read (Good n) x y f g = by (λ r. lettered r ≡ true) (eqb n 0) (λ _. lettered-one read f x) (λ _. lettered-one read g y)
+lettered-unit read Bad x y f g = refl
 
 lettered-as-named : (l : Letter) (t : List ℕ) → lettered (commandOf l t) ≡ named l
 unfolding commandOf volumeOf pacedOf slopesOf compensationOf
-lettered-as-named L.Home t = lettered-one _ _
-lettered-as-named (L.Volume way) t = lettered-unit _ _ _ _ _
-lettered-as-named (L.Speed pace) t = lettered-unit _ _ _ _ _
-lettered-as-named L.Slopes t = lettered-two _ _ _
-lettered-as-named L.Backlash t = lettered-one _ _
-lettered-as-named L.Compensation t = lettered-two _ _ _
-lettered-as-named L.Delay t = lettered-one _ _
+lettered-as-named L.Home t = lettered-one _ _ _
+lettered-as-named (L.Volume way) t = lettered-unit _ _ _ _ _ _
+lettered-as-named (L.Speed pace) t = lettered-unit _ _ _ _ _ _
+lettered-as-named L.Slopes t = lettered-two _ _ _ _
+lettered-as-named L.Backlash t = lettered-one _ _ _
+lettered-as-named L.Compensation t = lettered-two _ _ _ _
+lettered-as-named L.Delay t = lettered-one _ _ _
 lettered-as-named L.Open [] = refl
 lettered-as-named L.Open (b ∷ t) = refl
-lettered-as-named L.Close t = lettered-one _ _
+lettered-as-named L.Close t = lettered-one _ _ _
 lettered-as-named L.Other t = refl
 
 no-letter : (f : Formed) → lettered f ≡ false → f ≡ NoLetter
 no-letter (Made c) e = let z : _≡_ {A = ℕ} 0 1 = cc in absurd (omega arith)
-no-letter WrongOperand e = let z : _≡_ {A = ℕ} 0 1 = cc in absurd (omega arith)
+no-letter (WrongOperand read) e = let z : _≡_ {A = ℕ} 0 1 = cc in absurd (omega arith)
 no-letter NoLetter e = refl
 
 module _ (b : ℕ) (t : List ℕ) where
@@ -192,20 +192,20 @@ unfolding readFrom foundIn placed
 foreign-read letter after h at = rw (foreign-makes-nothing letter (operandText after) h)
 
 untaken-read :
-    (letter : ℕ) (operand after : List ℕ) → Operands operand after → commandOf (letterOf letter) operand ≡ WrongOperand →
-    (at : ℕ) → readFrom false at (letter ∷ (operand ++ after)) ≡ wrong (M.Operand (at + 1))
+    (letter : ℕ) (operand after : List ℕ) (read : ℕ) → Operands operand after → commandOf (letterOf letter) operand ≡ WrongOperand read →
+    (at : ℕ) → readFrom false at (letter ∷ (operand ++ after)) ≡ wrong (M.Operand (at + 1) read)
 unfolding placed
-untaken-read letter operand after o h at = one-read at letter operand after o ∙ rw h
+untaken-read letter operand after read o h at = one-read at letter operand after o ∙ rw h
 
 -- what the grammar says, the reader says
 sound : (t : List ℕ) (v : Checked) → Judged t v → checkOf t ≡ v
 unfolding checkOf readOf
 sound t Fine j = ap verdict (all-read t j 0 .1)
 sound t (Wrong (M.Letter place)) j = ap verdict (wrong-where-said (j .up-to) M.Letter (foreign-read (j .letter) (j .after) (j .foreign)))
-sound t (Wrong (M.Operand place)) j =
+sound t (Wrong (M.Operand place read)) j =
     ap verdict
-    (wrong-where-said (j .up-to) (λ n. M.Operand (n + 1)) (untaken-read (j .letter) (j .operand) (j .after) (j .extent) (j .untaken)) ∙
-    ap (λ n. wrong (M.Operand n)) (sym (j .here)))
+    (wrong-where-said (j .up-to) (λ n. M.Operand (n + 1) read) (untaken-read (j .letter) (j .operand) (j .after) read (j .extent) (j .untaken)) ∙
+    ap (λ n. wrong (M.Operand n read)) (sym (j .here)))
 
 -- every text is commands, or has a first wrong place
 ended-front : (t u : List ℕ) → Ended (t ++ u) → Ended t
@@ -243,8 +243,8 @@ module _ (letter : ℕ) (operand after : List ℕ) (c : Command) (o : Operands o
       foreign = j .foreign;
     },
   )
-  more (Wrong (M.Operand place)) j = (
-    Wrong (M.Operand (j .at + 1 + length operand + 1)),
+  more (Wrong (M.Operand place read)) j = (
+    Wrong (M.Operand (j .at + 1 + length operand + 1) read),
     record {
       letter = j .letter;
       operand = j .operand;
@@ -282,8 +282,8 @@ module _ (b : ℕ) (t : List ℕ) where
       foreign = nothing-made-is-foreign b its e;
     },
   )
-  first-of WrongOperand e later = (
-    Wrong (M.Operand 1),
+  first-of (WrongOperand read) e later = (
+    Wrong (M.Operand 1 read),
     record {
       letter = b;
       operand = its;

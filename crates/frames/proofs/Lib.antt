@@ -14,3 +14,4 @@ pub mod Ticks
 pub mod Grammar
 pub mod Strings
 pub mod Shaping
+pub mod Columns

@@ -130,7 +130,7 @@ module _ (added : List ℕ) (a : Address) (d : Device) where
     replied D.TooLong = record { said = refl; buffer = refl }
 
     -- what is left behind
-    left-by : (x : Action) (y : Data) → ((n : ℕ) → refusedCore y n (d .core) ≡ coreError n (d .core)) → taskOf (G.Data y) ≡ T.Act x → (Buffer.numberFor x added d ≡ 0 → ⊥) → Refused y (Buffer.numberFor x added d) d (does y)
+    left-by : (x : Action) (y : Data) → ((n : ℕ) → refusedCore y n (d .core) ≡ coreError n 0 (d .core)) → taskOf (G.Data y) ≡ T.Act x → (Buffer.numberFor x added d ≡ 0 → ⊥) → Refused y (Buffer.numberFor x added d) d (does y)
     unfolding dealtOf performedOf actOf actedOf storedBy
     left-by x y no-report is h =
         let (why, e) = another-has-a-reason (verdictFor x added d) h in
@@ -143,7 +143,7 @@ module _ (added : List ℕ) (a : Address) (d : Device) where
     left (D.Control c) h = left-by (actionOf c) (D.Control c) (λ n. refl) refl h
     left (D.Text n run) h = left-by (stringAction run) (D.Text n run) (λ m. refl) refl h
     left (D.Wrong (Letter place)) h = record { text = refl; core = refl; events = refl }
-    left (D.Wrong (Operand place)) h = record { text = refl; core = refl; events = refl }
+    left (D.Wrong (Operand place read)) h = record { text = refl; core = refl; events = refl }
     left D.TooLong h = record { text = refl; core = refl; events = refl }
 
     untouched : (x : Data) → isReport x ≡ true → Unchanged d (does x)
@@ -166,7 +166,7 @@ module _ (added : List ℕ) (a : Address) (d : Device) where
     cleared (D.Control c) h e = cleared-by (actionOf c) (D.Control c) refl e
     cleared (D.Text n run) h e = cleared-by (stringAction run) (D.Text n run) refl e
     cleared (D.Wrong (Letter place)) h e = absurd (omega arith)
-    cleared (D.Wrong (Operand place)) h e = absurd (omega arith)
+    cleared (D.Wrong (Operand place read)) h e = absurd (omega arith)
     cleared D.TooLong h e = absurd (omega arith)
 
   -- which number
@@ -177,7 +177,7 @@ module _ (added : List ℕ) (a : Address) (d : Device) where
   only-14 (D.Control c) e = nothing c (nothing-to-run-is-14 (actionOf c) added d .only e)
   only-14 (D.Text n run) e = absurd (no-string run (columnOf (d .core .course .state)) (nothing-to-run-is-14 (stringAction run) added d .only e))
   only-14 (D.Wrong (Letter place)) e = absurd (omega arith)
-  only-14 (D.Wrong (Operand place)) e = absurd (omega arith)
+  only-14 (D.Wrong (Operand place read)) e = absurd (omega arith)
   only-14 D.TooLong e = absurd (omega arith)
 
   always-14 : (x : Data) → NothingNow (d .core .course .state) x → number x ≡ 14
@@ -191,7 +191,7 @@ module _ (added : List ℕ) (a : Address) (d : Device) where
   only-15 (D.Control c) e = control c (busy-or-too-long-is-15 (actionOf c) added d .only e)
   only-15 (D.Text n run) e = text n run (busy-or-too-long-is-15 (stringAction run) added d .only e)
   only-15 (D.Wrong (Letter place)) e = absurd (omega arith)
-  only-15 (D.Wrong (Operand place)) e = absurd (omega arith)
+  only-15 (D.Wrong (Operand place read)) e = absurd (omega arith)
   only-15 D.TooLong e = too-many-bytes
 
   always-15 : (x : Data) → TooMuchNow a d added x → number x ≡ 15
@@ -207,7 +207,7 @@ module _ (added : List ℕ) (a : Address) (d : Device) where
   known (D.Control c) = known-buffer _ (no-other-refusal (actionOf c) added d)
   known (D.Text n run) = known-buffer _ (no-other-refusal (stringAction run) added d)
   known (D.Wrong (Letter place)) = inr (inl refl)
-  known (D.Wrong (Operand place)) = inr (inr (inl refl))
+  known (D.Wrong (Operand place read)) = inr (inr (inl refl))
   known D.TooLong = inr (inr (inr (inr refl)))
 
 -- 2 and 3, of the bytes received
@@ -225,7 +225,7 @@ module _ (ds : List ℕ) (a : Address) (d : Device) where
   only-2 (D.Control c) is e = never-2 (addedOf ds) d (actionOf c) e
   only-2 (D.Text n run) is e = never-2 (addedOf ds) d (stringAction run) e
   only-2 (D.Wrong (Letter place)) is e = let r = refused-as (Letter place) is in record { string = r .string; place = place; letter = r .judged }
-  only-2 (D.Wrong (Operand place)) is e = absurd (omega arith)
+  only-2 (D.Wrong (Operand place read)) is e = absurd (omega arith)
   only-2 D.TooLong is e = absurd (omega arith)
 
   only-3 : (x : Data) → receivedOf ds ≡ x → gets x ≡ 3 → WrongNumber a d ds
@@ -235,12 +235,12 @@ module _ (ds : List ℕ) (a : Address) (d : Device) where
   only-3 (D.Control c) is e = loops-of-control c is (wrong-loops-are-3 (actionOf c) (addedOf ds) d .only e)
   only-3 (D.Text n run) is e = loops-of-text n run is (wrong-loops-are-3 (stringAction run) (addedOf ds) d .only e)
   only-3 (D.Wrong (Letter place)) is e = absurd (omega arith)
-  only-3 (D.Wrong (Operand place)) is e = let r = refused-as (Operand place) is in operand (r .string) place (r .judged)
+  only-3 (D.Wrong (Operand place read)) is e = let r = refused-as (Operand place read) is in operand (r .string) place read (r .judged)
   only-3 D.TooLong is e = absurd (omega arith)
 
   always-3 : WrongNumber a d ds → gets (receivedOf ds) ≡ 3
   unfolding numberFor
-  always-3 (operand string place judged) = rw (a-string-is-refused-exactly-at-its-first-wrong-place ds (Operand place) .always (record { string = string; judged = judged }))
+  always-3 (operand string place read judged) = rw (a-string-is-refused-exactly-at-its-first-wrong-place ds (Operand place read) .always (record { string = string; judged = judged }))
   always-3 (report is) = rw is
   always-3 (report-number q is h) = rw (is, h)
   always-3 (loops-of-control c is h) = rw is (wrong-loops-are-3 (actionOf c) (addedOf ds) d .always h)

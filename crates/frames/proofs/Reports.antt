@@ -70,9 +70,9 @@ no-value n b s =
     (λ e. no-setting n (b .settings) (29 ∷ 67 ∷ []) h)
     (λ e. none-of (eqb n 29) _ _ _ (none-of (eqb n 67) _ _ _ (λ k. refl)) (behind-settings n (29 ∷ 67 ∷ []) h)))))
 
-no-query : (n error : ℕ) → isAmong n (0 ∷ 1 ∷ []) ≡ false → queryOf n error ≡ No
+no-query : (n error column : ℕ) → isAmong n (0 ∷ 1 ∷ 2 ∷ []) ≡ false → queryOf n error column ≡ No
 unfolding queryOf
-no-query n error = none-of (eqb n 0) _ _ _ (none-of (eqb n 1) _ _ _ (λ h. refl))
+no-query n error column = none-of (eqb n 0) _ _ _ (none-of (eqb n 1) _ _ _ (none-of (eqb n 2) _ _ _ (λ h. refl)))
 
 module _ (a : Address) (d : Device) where
   -- "Others 3, Q's too."
@@ -80,9 +80,14 @@ module _ (a : Address) (d : Device) where
   unfolding refusalOf numberFor tellOf
   any-other-number-is-3 ds n e h = rw (e, no-value n (d .core .body) (d .core .course .state) h)
 
-  pub any-other-number-of-Q-is-3 : (ds : List ℕ) (n : ℕ) → receivedOf ds ≡ D.Report (Q.Query n) → isAmong n (0 ∷ 1 ∷ []) ≡ false → refusalOf ds a d ≡ 3
+  -- 02, W-202: "Q2 reports the column"; "Q3 and above stay 3"
+  pub any-other-number-of-Q-is-3 : (ds : List ℕ) (n : ℕ) → receivedOf ds ≡ D.Report (Q.Query n) → isAmong n (0 ∷ 1 ∷ 2 ∷ []) ≡ false → refusalOf ds a d ≡ 3
   unfolding refusalOf numberFor tellOf
-  any-other-number-of-Q-is-3 ds n e h = rw (e, no-query n (d .core .course .error) h)
+  any-other-number-of-Q-is-3 ds n e h = rw (e, no-query n (d .core .course .error) (d .core .course .misread) h)
+
+  pub Q2-tells-the-column : toldOf (Q.Query 2) a (d .core) ≡ Says (Whole (d .core .course .misread))
+  unfolding tellOf queryOf
+  Q2-tells-the-column = refl
 
   -- "0 goal (the plunger when none pending)": whenever nothing moves
   pub the-goal-at-rest-is-the-plunger : moving (d .core .course .state) ≡ false → toldOf (Q.Value 0) a (d .core) ≡ Says (Whole (d .core .body .plunger))

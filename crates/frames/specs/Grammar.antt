@@ -60,8 +60,8 @@ pub record LetterAt (t : List ℕ) (place : ℕ) : Type 0 where
   pub up-to : UpTo t place (letter ∷ after)
   pub foreign : isAmong letter letters ≡ false
 
--- 3: commands, then a letter, and from the place on its operand text, empty or not, which is none that it takes
-pub record OperandAt (t : List ℕ) (place : ℕ) : Type 0 where
+-- 3: commands, then a letter, and from the place on its operand text, empty or not, which is none that it takes; W-202: so many of its characters were read
+pub record OperandAt (t : List ℕ) (place read : ℕ) : Type 0 where
   pub letter : ℕ
   pub operand : List ℕ
   pub after : List ℕ
@@ -69,10 +69,10 @@ pub record OperandAt (t : List ℕ) (place : ℕ) : Type 0 where
   pub here : place ≡ at + 1
   pub up-to : UpTo t at (letter ∷ (operand ++ after))
   pub extent : Operands operand after
-  pub untaken : commandOf (letterOf letter) operand ≡ WrongOperand
+  pub untaken : commandOf (letterOf letter) operand ≡ WrongOperand read
 
 -- what the grammar says of a text
 abbrev pub Judged : List ℕ → Checked → Type 0
 Judged t Fine = Commands t
 Judged t (Wrong (Letter place)) = LetterAt t place
-Judged t (Wrong (Operand place)) = OperandAt t place
+Judged t (Wrong (Operand place read)) = OperandAt t place read

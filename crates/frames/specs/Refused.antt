@@ -1,5 +1,5 @@
 -- 01, "Numbers that come back": the number each frame to us gets, and where it gets it.
-use Prim.Native.Nat.{ℕ, _≤_}
+use Prim.Native.Nat.{ℕ, _+_, _≤_}
 use mathlib.Core.Path.{_≡_}
 use mathlib.Core.Logic.{_⊎_}
 use mathlib.Core.Bool.{Bool, true, false, _&&_, _||_}
@@ -9,7 +9,7 @@ use lib.ListN.{length}
 use Rattle.basics.specs.Choice.{if_then_else_}
 use Rattle.basics.specs.Lay.{over}
 use Rattle.command.specs.declared.refusal.Refusal.the-variants as R
-use Rattle.command.specs.Numbers.{refusalNumber}
+use Rattle.command.specs.Numbers.{refusalNumber, refusalColumn}
 use Rattle.text.specs.declared.Question.{Question}
 use Rattle.text.specs.declared.Control.{Control}
 use Rattle.text.specs.declared.Data.{Data}
@@ -97,9 +97,18 @@ pub record Replied (x : Data) (number : ℕ) (a : Address) (d : Device) (buf : L
   pub said : e .next .said ≡ Answer (length (answerTo x number a (d .core) (e .next .device .core)))
   pub buffer : e .next .buffer ≡ over (answerTo x number a (d .core) (e .next .device .core)) 0 buf
 
--- "Left behind: last error only"; a refused report "changes nothing"
+-- 02, W-202: the column that a frame leaves, by its data, where another was left before: "the last load refusal by 2 or 3"; "Reports don't set it. It is 0 after any other frame to us"
+abbrev pub columnAfter : Data → ℕ → ℕ
+columnAfter (D.Report q) before = before
+columnAfter D.WrongReport before = before
+columnAfter (D.Wrong m) before = refusalColumn (R.Misread m)
+columnAfter (D.Control k) before = 0
+columnAfter (D.Text n run) before = 0
+columnAfter D.TooLong before = 0
+
+-- "Left behind: last error only", with its column; a refused report "changes nothing"
 abbrev pub refusedCore : Data → ℕ → Core → Core
-refusedCore x number c = if isReport x then c else coreError number c
+refusedCore x number c = if isReport x then c else coreError number (columnAfter x (c .course .misread)) c
 
 pub record Refused (x : Data) (number : ℕ) (d : Device) (e : Turn Exchange) : Type 0 where
   pub text : e .next .device .text ≡ d .text
@@ -136,7 +145,7 @@ pub record WrongLetter (ds : List ℕ) : Type 0 where
 
 -- 3: "operand, report number or loops wrong": the string is commands up to a letter whose operand text it doesn't take; a report that asks for what there isn't; or a text that is to run and has no tree of loops
 pub data WrongNumber (a : Address) (d : Device) (ds : List ℕ) : Type 0 where
-  operand : IsString ds → (place : ℕ) → OperandAt (textIn ds) place → WrongNumber a d ds
+  operand : IsString ds → (place read : ℕ) → OperandAt (textIn ds) place read → WrongNumber a d ds
   report : receivedOf ds ≡ D.WrongReport → WrongNumber a d ds
   report-number : (q : Question) → receivedOf ds ≡ D.Report q → toldOf q a (d .core) ≡ No → WrongNumber a d ds
   loops-of-control : (c : Control) → receivedOf ds ≡ D.Control c → WrongLoops (actionOf c) (d .core .course .state) (storedIn d) (addedOf ds) → WrongNumber a d ds
@@ -152,3 +161,14 @@ module _ (a : Address) (d : Device) (added : List ℕ) where
 -- 14: "R or X with nothing to run"
 pub data NothingNow (s : State) : Data → Type 0 where
   nothing : (c : Control) → NothingToRun (actionOf c) (columnOf s) → NothingNow s (D.Control c)
+
+-- 02, W-202: what the column means that a frame with these data leaves
+pub record Columned (ds : List ℕ) (a : Address) (d : Device) (e : Turn Exchange) : Type 0 where
+  -- the characters before it read as commands, and the one there is no letter of the table
+  pub at-the-wrong-letter : (place : ℕ) → IsString ds → LetterAt (textIn ds) place → e .next .device .core .course .misread ≡ place + 1
+  -- those before the letter in front of it read as commands, and from there on stands an operand text that this letter doesn't take
+  pub at-the-wrong-operand : (place read : ℕ) → IsString ds → OperandAt (textIn ds) place read → e .next .device .core .course .misread ≡ place + 1
+  pub a-report-leaves-it : isReport (receivedOf ds) ≡ true → e .next .device .core .course .misread ≡ d .core .course .misread
+  -- "It is 0 after any other frame to us"
+  pub any-other-frame-makes-it-0 :
+      isReport (receivedOf ds) ≡ false → (WrongLetter ds → ⊥) → ((place read : ℕ) → IsString ds → OperandAt (textIn ds) place read → ⊥) → e .next .device .core .course .misread ≡ 0

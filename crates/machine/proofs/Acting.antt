@@ -75,8 +75,8 @@ module _ (c r : Core) (on : Course) (e : r ≡ core (c .body) on) where
   unfolding changedOf
   clears q = rw (← q) e
 
-  pub errs : (code : ℕ) → on ≡ withError code (c .course) → r ≡ coreError code c
-  errs code q = rw (← q) e
+  pub errs : (code column : ℕ) → on ≡ withError code column (c .course) → r ≡ coreError code column c
+  errs code column q = rw (← q) e
 
 pub change-case : (k j : Change) (c r : Core) → k ≡ j → r ≡ changedOf j c .next → r ≡ changedOf k c .next
 change-case k j c r p e = rw p e
@@ -102,11 +102,11 @@ module _ (o : Order) (n : ℕ) (c : Core) where
 
 -- an order that was accepted or refused
 module _ (o : Order) (v : Verdict) (n : ℕ) (c r : Core) where
-  pub accepts : (d : Core) → v ≡ Fine → d ≡ doneOf o n c .next → r ≡ coreError 0 d → r ≡ actedOf o v n c .next
+  pub accepts : (d : Core) → v ≡ Fine → d ≡ doneOf o n c .next → r ≡ coreError 0 0 d → r ≡ actedOf o v n c .next
   unfolding actedOf
-  accepts d h p e = rw h (e ∙ ap (λ (x : Core). coreError 0 x) p)
+  accepts d h p e = rw h (e ∙ ap (λ (x : Core). coreError 0 0 x) p)
 
-  pub refuses : (why : Refusal) (code : ℕ) → v ≡ Refused why → code ≡ refusalNumber why → r ≡ coreError code c → r ≡ actedOf o v n c .next
+  pub refuses : (why : Refusal) (code : ℕ) → v ≡ Refused why → code ≡ refusalNumber why → r ≡ coreError code 0 c → r ≡ actedOf o v n c .next
   unfolding actedOf
   refuses why code h q e = rw h (rw q at e)
 

@@ -20,7 +20,7 @@ use Rattle.machine.specs.Act.{stopOf}
 use Rattle.machine.specs.Device.{device, freshOf, turned, tickOf, haltedOf, advanceOf, ranOf}
 use Rattle.machine.proofs.Runs.{used-ticks}
 
-pub is-fresh : (b : Body) (l : Loops) → b ≡ freshBody .next → l ≡ noLoops → device (replicate 256 0) (core b (courseOf 0 0 l Empty 0)) ≡ freshOf .next
+pub is-fresh : (b : Body) (l : Loops) → b ≡ freshBody .next → l ≡ noLoops → device (replicate 256 0) (core b (courseOf 0 0 l Empty 0 0)) ≡ freshOf .next
 unfolding freshOf
 is-fresh b l p q = rw (p, q)
 

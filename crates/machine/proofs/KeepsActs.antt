@@ -83,13 +83,13 @@ module _ (c : Core) (ok : Valid c) where
   done-keeps (O.Load l false) n h = waiting-ok _ h
   done-keeps (O.Change k) n h = changed-keeps k
 
-pub error-ok : (code : ℕ) (c : Core) → code ≤ 15 → Valid c → Valid (coreError code c)
-error-ok code c small ok = record { body = ok .body; course = record { len = ok .course .len; state = ok .course .state; error = small } }
+pub error-ok : (code column : ℕ) (c : Core) → code ≤ 15 → Valid c → Valid (coreError code column c)
+error-ok code column c small ok = record { body = ok .body; course = record { len = ok .course .len; state = ok .course .state; error = small } }
 
 acted-keeps : (o : Order) (v : Verdict) (n : ℕ) (c : Core) → Valid c → (v ≡ Fine → lengthBy o (c .course .len) n ≤ 256) → Valid (actedOf o v n c .next)
 unfolding actedOf
-acted-keeps o Fine n c ok h = error-ok 0 (doneOf o n c .next) (omega arith) (done-keeps c ok o n (h refl))
-acted-keeps o (Refused why) n c ok h = error-ok (refusalNumber why) c (every-number-is-1-to-15 why .1) ok
+acted-keeps o Fine n c ok h = error-ok 0 0 (doneOf o n c .next) (omega arith) (done-keeps c ok o n (h refl))
+acted-keeps o (Refused why) n c ok h = error-ok (refusalNumber why) 0 c (every-number-is-1-to-15 why .1) ok
 
 -- the array keeps its length
 length-laid-in : (added : List ℕ) (at : ℕ) (text : List ℕ) → length (laidIn added at text) ≡ length text

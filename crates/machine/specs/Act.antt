@@ -52,13 +52,13 @@ doneOf (O.Load loading run) n c =
     quiet (core (c .body) (if run then begun len (c .course) else waiting len (c .course)))
 doneOf (O.Change change) n c = changedOf change c
 
--- "An accepted frame that isn't a report sets it to 0, a refused one to its code"; a refusal leaves everything else as it was
-abbrev pub coreError : ℕ → Core → Core
-coreError code c = core (c .body) (withError code (c .course))
+-- "An accepted frame that isn't a report sets it to 0, a refused one to its code"; a refusal leaves everything else as it was. Neither leaves a column (02, W-202)
+abbrev pub coreError : ℕ → ℕ → Core → Core
+coreError code column c = core (c .body) (withError code column (c .course))
 
 unfoldable pub actedOf : Order → Verdict → ℕ → Core → Turn Core
-actedOf order Fine n c = let t = doneOf order n c in record { next = coreError 0 (t .next); events = t .events }
-actedOf order (Refused why) n c = quiet (coreError (refusalNumber why) c)
+actedOf order Fine n c = let t = doneOf order n c in record { next = coreError 0 0 (t .next); events = t .events }
+actedOf order (Refused why) n c = quiet (coreError (refusalNumber why) 0 c)
 
 -- what is accepted fits
 pub record Fitting (order : Order) (verdict : Verdict) (len n : ℕ) : Type 0 where

@@ -24,7 +24,7 @@ device text c = record { text = text; core = c }
 
 -- "Fresh: plunger and exact position 0, as after reset."
 unfoldable pub freshOf : Turn Device
-freshOf = record { next = device (replicate 256 0) (core (freshBody .next) (courseOf 0 0 noLoops Empty 0)); events = freshBody .events }
+freshOf = record { next = device (replicate 256 0) (core (freshBody .next) (courseOf 0 0 noLoops Empty 0 0)); events = freshBody .events }
 
 -- a device, and why its run fails if it does
 abbrev pub turned : Device → Stepped → Turned

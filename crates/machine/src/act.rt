@@ -161,11 +161,11 @@ impl Core {
         }
     }
 
-    pub fn with_error(self, code: u8) -> Core
-        ensures { λ r. ⌜ r ≡ coreError code self ⌝ }
+    pub fn with_error(self, code: u8, column: u32) -> Core
+        ensures { λ r. ⌜ r ≡ coreError code column self ⌝ }
     {
         let course = self.course;
-        self.on(course.with_error(code))
+        self.on(course.with_error(code, column))
     }
 
     // An order that was accepted or refused, with n characters.
@@ -174,8 +174,8 @@ impl Core {
         ensures { λ r. ⌜ r ≡ actedOf order verdict n self .next ⌝ }
     {
         match verdict {
-            Verdict::Fine => self.done(order, n).with_error(0),
-            Verdict::Refused(why) => self.with_error(why.number()),
+            Verdict::Fine => self.done(order, n).with_error(0, 0),
+            Verdict::Refused(why) => self.with_error(why.number(), 0),
         }
     }
 

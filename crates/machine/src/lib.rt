@@ -48,6 +48,7 @@ impl Device {
             loops,
             state: State::Empty,
             error: 0,
+            misread: 0,
         };
         Device {
             text: [0u8; 256],

@@ -85,6 +85,7 @@ impl Core {
         let len = course.len;
         let loops = course.loops;
         let error = course.error;
+        let misread = course.misread;
         Skipped {
             core: Core {
                 body,
@@ -94,6 +95,7 @@ impl Core {
                     loops,
                     state: State::Running(activity),
                     error,
+                    misread,
                 },
             },
             used: n,

@@ -139,3 +139,49 @@ run-joined class (b ∷ t) u e = go (has class b) (run-joined class t u e)
     go : (x : Bool) → run class (t ++ u) ≡ run class t → (if x then b ∷ run class (t ++ u) else []) ≡ (if x then b ∷ run class t else [])
     go true h = ap (_∷_ b) h
     go false h = refl
+
+-- a run and what follows it, from their seam: what follows begins with no byte of the class
+module _ (class : Class) (t u : List ℕ) (h : every (has class) t ≡ true) where
+  pub run-through : run class (t ++ u) ≡ t ++ run class u
+  unfolding run every
+  run-through = go t h
+    where
+      go : (t : List ℕ) → every (has class) t ≡ true → run class (t ++ u) ≡ t ++ run class u
+      go [] q = refl
+      go (b ∷ t) q =
+          let p = and-both (has class b) (every (has class) t) q in
+          rw (run, p .0, go t (p .1))
+
+  module _ (e : run class u ≡ []) where
+    pub run-seam : run class (t ++ u) ≡ t
+    run-seam = run-joined class t u e ∙ run-all class t h
+
+    pub rest-seam : rest class (t ++ u) ≡ u
+    rest-seam = sym (drop-run class (t ++ u)) ∙ rw run-seam (drop-append-seam t u)
+
+-- a text that begins with no byte of a class: what follows a run, and each beginning of it
+pub bare-head : (class : Class) (b : ℕ) (t : List ℕ) → run class (b ∷ t) ≡ [] → has class b ≡ false
+unfolding run
+bare-head class b t e = go (has class b) e
+  where
+    go : (x : Bool) → (if x then b ∷ run class t else []) ≡ [] → x ≡ false
+    go true q = let z : _≡_ {A = ℕ} 1 0 = cc in absurd (omega arith)
+    go false q = refl
+
+pub bare : (class : Class) (b : ℕ) (t : List ℕ) → has class b ≡ false → run class (b ∷ t) ≡ []
+unfolding run
+bare class b t e = rw (run, e)
+
+pub bare-take : (class : Class) (t : List ℕ) (i : ℕ) → run class t ≡ [] → run class (take i t) ≡ []
+unfolding run
+bare-take class t zero e = refl
+bare-take class [] (suc i) e = refl
+bare-take class (b ∷ t) (suc i) e = bare class b (take i t) (bare-head class b t e)
+
+pub rest-bare : (class : Class) (t : List ℕ) → run class (rest class t) ≡ []
+unfolding run
+rest-bare class t = go (rest class t) (rest-begins class t)
+  where
+    go : (u : List ℕ) → ((b : ℕ) (v : List ℕ) → u ≡ b ∷ v → has class b ≡ false) → run class u ≡ []
+    go [] f = refl
+    go (b ∷ v) f = bare class b v (f b v refl)

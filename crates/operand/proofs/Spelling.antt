@@ -13,6 +13,7 @@ use Rattle.basics.proofs.Digits.{digit-range, value-append}
 use Rattle.operand.specs.declared.Class.the-variants.{Digit}
 use Rattle.operand.specs.declared.Number.the-variants.{Wrong}
 use Rattle.operand.specs.Text.{run, rest}
+use Rattle.operand.specs.Begins.{readIn}
 use Rattle.operand.specs.Number.{digits, followedOf, numberOf}
 use Rattle.operand.proofs.Runs.{every-at}
 
@@ -27,7 +28,7 @@ value-more t i h = rw (add-one, take-suc t i 0 h, value-append) (omega arith)
 -- the number of a text that is not empty
 pub number-some :
     (t : List ℕ) → (length t ≡ 0 → ⊥) →
-    numberOf t ≡ (if digits 1 6 (run Digit t) then followedOf (valueOf (run Digit t)) (rest Digit t) else Wrong)
+    numberOf t ≡ (if digits 1 6 (run Digit t) then followedOf (readIn t) (valueOf (run Digit t)) (rest Digit t) else Wrong (readIn t))
 unfolding numberOf
 number-some [] h = absurd (h refl)
 number-some (b ∷ t) h = refl

@@ -1,3 +1,4 @@
 pub mod Text
+pub mod Begins
 pub mod Number
 pub mod Steps

@@ -1,12 +1,13 @@
 // Operand texts: the numbers behind a command's letter.
 ghost use mathlib.Core.Path.{_≡_};
 ghost use mathlib.Core.Bool.{true};
-ghost use Prim.Native.Nat.{_^_, _≤_, _<_};
+ghost use Prim.Native.Nat.{_+_, _^_, _≤_, _<_};
 ghost use lib.ListN.{length};
 ghost use Rattle.basics.specs.Bytes.{digit, every};
 ghost use Rattle.operand.specs.Text.{has, run, operandText};
-ghost use Rattle.operand.specs.Number.{decimalsOf, followedOf, numberOf, behindComma, pairOf};
-ghost use Rattle.operand.specs.Steps.{Spelt, Scaled};
+ghost use Rattle.operand.specs.Begins.{longest, few, follows};
+ghost use Rattle.operand.specs.Number.{decimalsOf, followedOf, numberOf, readOf, singleOf, pairOf};
+ghost use Rattle.operand.specs.Steps.{Spelt, Scaled, commaOf};
 
 // Digits; digits, points and commas; all but a comma.
 pub enum Class {
@@ -19,12 +20,20 @@ pub enum Class {
 pub enum Number {
     Absent,
     Is { thousandths: u32, decimals: usize },
-    Wrong,
+    // W-202: how many characters of the text were read.
+    Wrong(usize),
+}
+
+// What a whole text is, with how many of its characters were read: all where it is well formed.
+pub struct Single {
+    pub number: Number,
+    pub read: usize,
 }
 
 pub struct Pair {
     pub first: Number,
     pub second: Number,
+    pub read: usize,
 }
 
 fn is_operand(b: u8) -> bool
@@ -100,20 +109,21 @@ fn scaled(v: u32, n: usize) -> u32
     v
 }
 
-// The digits behind a point, after a whole part of so many thousandths.
-fn fraction(whole: u32, t: &[u8]) -> Number
-    requires { ⌜ whole < 1000000000 ⌝ }
-    ensures { λ r. ⌜ r ≡ decimalsOf whole (now (t .entry)) ⌝ }
+// The digits behind a point, after a whole part of so many thousandths and `from` characters of the number.
+fn fraction(from: usize, whole: u32, t: &[u8]) -> Number
+    requires { ⌜ (from ≤ 7) × (whole < 1000000000) ⌝ }
+    ensures { λ r. ⌜ r ≡ decimalsOf (from + longest (few 3) (length (now (t .entry))) (now (t .entry))) whole (now (t .entry)) ⌝ }
 {
     let n = run_length(t, Class::Digit);
+    if 3 < n {
+        return Number::Wrong(from + 3);
+    }
+    let read = from + n;
     if n != t.len() {
-        return Number::Wrong;
+        return Number::Wrong(read);
     }
     if n < 1 {
-        return Number::Wrong;
-    }
-    if 3 < n {
-        return Number::Wrong;
+        return Number::Wrong(read);
     }
     let part = scaled(value(t), n);
     Number::Is {
@@ -122,10 +132,10 @@ fn fraction(whole: u32, t: &[u8]) -> Number
     }
 }
 
-// What follows the digits of a whole part.
-fn followed(whole: u32, t: &[u8]) -> Number
-    requires { ⌜ whole < 1000000 ⌝ }
-    ensures { λ r. ⌜ r ≡ followedOf whole (now (t .entry)) ⌝ }
+// What follows the n digits of a whole part.
+fn followed(n: usize, whole: u32, t: &[u8]) -> Number
+    requires { ⌜ (1 ≤ n) × ((n ≤ 6) × (whole < 1000000)) ⌝ }
+    ensures { λ r. ⌜ r ≡ followedOf (n + longest (follows n) (length (now (t .entry))) (now (t .entry))) whole (now (t .entry)) ⌝ }
 {
     let base = whole * 1000;
     if t.len() == 0 {
@@ -135,9 +145,10 @@ fn followed(whole: u32, t: &[u8]) -> Number
         };
     }
     if t[0] != b'.' {
-        return Number::Wrong;
+        return Number::Wrong(n);
     }
-    fraction(base, &t[1..])
+    let from = n + 1;
+    fraction(from, base, &t[1..])
 }
 
 // The number that a whole text is: one operand.
@@ -149,33 +160,71 @@ pub fn one(t: &[u8]) -> Number
     }
     let n = run_length(t, Class::Digit);
     if n == 0 {
-        return Number::Wrong;
+        return Number::Wrong(0);
     }
     if 6 < n {
-        return Number::Wrong;
+        return Number::Wrong(6);
     }
     let whole = value(&t[..n]);
-    followed(whole, &t[n..])
+    followed(n, whole, &t[n..])
 }
 
-// The number behind the comma that a text begins with.
-fn behind_comma(t: &[u8]) -> Number
-    ensures { λ r. ⌜ r ≡ behindComma (now (t .entry)) ⌝ }
+// How many characters were read, `size` of them where the number is right.
+fn read_of(n: Number, size: usize) -> usize
+    ensures { λ r. ⌜ r ≡ readOf n size ⌝ }
+{
+    match n {
+        Number::Absent => size,
+        Number::Is {
+            thousandths: _,
+            decimals: _,
+        } => size,
+        Number::Wrong(read) => read,
+    }
+}
+
+// The number that a whole text is, with how far it was read.
+pub fn only(t: &[u8]) -> Single
+    ensures { λ r. ⌜ r ≡ singleOf (now (t .entry)) ⌝ }
+{
+    let number = one(t);
+    let read = read_of(number, t.len());
+    Single { number, read }
+}
+
+// The number behind the comma that a text begins with, with how far the text was read.
+fn behind_comma(t: &[u8]) -> Single
+    ensures { λ r. ⌜ r ≡ commaOf (now (t .entry)) ⌝ }
 {
     if t.len() == 0 {
-        return Number::Absent;
+        return Single {
+            number: Number::Absent,
+            read: 0,
+        };
     }
-    one(&t[1..])
+    let second = only(&t[1..]);
+    let number = second.number;
+    let behind = second.read;
+    let read = 1 + behind;
+    Single { number, read }
 }
 
-// The two numbers that a whole text is: two operands.
+// The two numbers that a whole text is, with how far it was read: two operands.
 pub fn two(t: &[u8]) -> Pair
     ensures { λ r. ⌜ r ≡ pairOf (now (t .entry)) ⌝ }
 {
     let k = run_length(t, Class::NoComma);
     let first = one(&t[..k]);
-    let second = behind_comma(&t[k..]);
-    Pair { first, second }
+    let behind = behind_comma(&t[k..]);
+    let second = behind.number;
+    let further = behind.read;
+    let right = k + further;
+    let read = read_of(first, right);
+    Pair {
+        first,
+        second,
+        read,
+    }
 }
 
 // How long the operand text is that a text begins with.

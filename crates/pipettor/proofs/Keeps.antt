@@ -68,7 +68,7 @@ module _ (k : Controller) (v : Valid k) where
 performed-keeps : (t : Task) (added : List ℕ) (d : Device) → Ready (d .core) (d .text) → (let e = performedOf t added d .next .device in Ready (e .core) (e .text))
 unfolding performedOf
 performed-keeps T.Leave added d r = r
-performed-keeps (T.Refuse why) added d r = record { valid = error-ok _ (d .core) (every-number-is-1-to-15 why .1) (r .valid); long = r .long }
+performed-keeps (T.Refuse why) added d r = record { valid = error-ok _ _ (d .core) (every-number-is-1-to-15 why .1) (r .valid); long = r .long }
 performed-keeps (T.Act action) added d r = act-keeps action added d r
 
 module _ (k : Controller) (b : ℕ) (buf : List ℕ) (long : length (k .device .text) ≡ 256) (v : Valid k) where

@@ -10,7 +10,7 @@ use Rattle.command.specs.declared.refusal.Refusal.{Refusal}
 use Rattle.command.specs.declared.refusal.Refusal.the-variants as R
 use Rattle.command.specs.declared.refusal.Verdict.{Verdict}
 use Rattle.command.specs.declared.refusal.Verdict.the-variants.{Fine, Refused}
-use Rattle.command.specs.Numbers.{refusalNumber, verdictNumber}
+use Rattle.command.specs.Numbers.{refusalNumber, refusalColumn, verdictNumber}
 use Rattle.text.specs.declared.Question.{Question}
 use Rattle.text.specs.declared.Control.{Control}
 use Rattle.text.specs.declared.Data.{Data}
@@ -78,9 +78,9 @@ module _ (t : Task) (added text : List ℕ) (c : Core) where
   unfolding performedOf
   leaves v p = record { is = rw p; again = v }
 
-  pub notes : (why : Refusal) (code : ℕ) (r : Core) → Valid c → t ≡ T.Refuse why → code ≡ refusalNumber why → r ≡ coreError code c → Performs t added (device text c) text (record { core = r; verdict = Refused why })
+  pub notes : (why : Refusal) (code column : ℕ) (r : Core) → Valid c → t ≡ T.Refuse why → code ≡ refusalNumber why → column ≡ refusalColumn why → r ≡ coreError code column c → Performs t added (device text c) text (record { core = r; verdict = Refused why })
   unfolding performedOf
-  notes why code r v p q e = record { is = rw (p, e, q); again = rw e (error-ok code c (rw q (every-number-is-1-to-15 why .1)) v) }
+  notes why code column r v p q l e = record { is = rw (p, e, q, l); again = rw e (error-ok code column c (rw q (every-number-is-1-to-15 why .1)) v) }
 
   pub performs : (a : Action) (after : List ℕ) (r : Done) → t ≡ T.Act a → Acts a added (device text c) after r → Performs t added (device text c) after r
   unfolding performedOf
@@ -102,7 +102,7 @@ outcome-wrong-report d a v c code p q = rw (p, q)
 -- a report's answer
 pub outcome-report :
     (d : Data) (q : Question) (a : Address) (ours : ℕ) (v : Verdict) (c : Core) (t : Told) (r : Outcome) →
-    d ≡ D.Report q → ours ≡ letterOf a → t ≡ tellOf q ours (c .body) (c .course .state) (c .course .error) →
+    d ≡ D.Report q → ours ≡ letterOf a → t ≡ tellOf q ours (c .body) (c .course .state) (c .course .error) (c .course .misread) →
     r ≡ toldCode t (c .course .error) → r ≡ outcomeOf (G.Data d) a v c
 unfolding outcomeOf
 outcome-report d q a ours v c t r p l k e = rw (p, ← l, ← k) e

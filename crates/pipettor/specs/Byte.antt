@@ -10,7 +10,7 @@ use Rattle.basics.specs.Lay.{over}
 use Rattle.command.specs.declared.refusal.Refusal.the-variants as R
 use Rattle.command.specs.declared.refusal.Verdict.{Verdict}
 use Rattle.command.specs.declared.refusal.Verdict.the-variants.{Fine, Refused}
-use Rattle.command.specs.Numbers.{refusalNumber, verdictNumber}
+use Rattle.command.specs.Numbers.{refusalNumber, refusalColumn, verdictNumber}
 use Rattle.text.specs.declared.Question.{Question}
 use Rattle.text.specs.declared.Control.{Control}
 use Rattle.text.specs.declared.Control.the-variants.{Run, Stop, Again, Clear, Reset}
@@ -109,7 +109,7 @@ sizeOf (G.Data D.TooLong) = 0
 -- what a task does to a device, with the characters that come with it
 unfoldable pub performedOf : Task → List ℕ → Device → Turn Acted
 performedOf T.Leave added d = quiet (acted (d .text) (d .core) Fine)
-performedOf (T.Refuse why) added d = quiet (acted (d .text) (coreError (refusalNumber why) (d .core)) (Refused why))
+performedOf (T.Refuse why) added d = quiet (acted (d .text) (coreError (refusalNumber why) (refusalColumn why) (d .core)) (Refused why))
 performedOf (T.Act action) added d = actOf action added d
 
 -- what is answered: "an accepted report's [status] carries the last error, an accepted other frame's 0, a refused frame's its own code"
@@ -118,7 +118,7 @@ toldCode (Says report) error = Tell report error
 toldCode No error = Tell Nothing (refusalNumber R.Report)
 
 abbrev pub toldOf : Question → Address → Core → Told
-toldOf q address c = tellOf q (letterOf address) (c .body) (c .course .state) (c .course .error)
+toldOf q address c = tellOf q (letterOf address) (c .body) (c .course .state) (c .course .error) (c .course .misread)
 
 unfoldable pub outcomeOf : Got → Address → Verdict → Core → Outcome
 outcomeOf G.Nothing address v c = Mute

@@ -147,7 +147,7 @@ impl Task {
                 verdict: Verdict::Fine,
             },
             Task::Refuse(why) => Done {
-                core: c.with_error(why.number()),
+                core: c.with_error(why.number(), why.column()),
                 verdict: Verdict::Refused(why),
             },
             Task::Act(action) => c.act(action, added, text),
@@ -176,8 +176,9 @@ fn answer_to(data: Data, address: Address, verdict: Verdict, c: Core) -> Outcome
             let course = c.course;
             let state = course.state;
             let error = course.error;
+            let column = course.misread;
             told(
-                reports::tell(q, address.letter(), body, state, error),
+                reports::tell(q, address.letter(), body, state, error, column),
                 error,
             )
         }

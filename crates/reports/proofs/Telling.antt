@@ -32,11 +32,11 @@ setting-case n j s r q e = rw q e
 pub value-case : (n j : ℕ) (b : Body) (s : State) (r : Told) → n ≡ j → r ≡ valueOf j b s → r ≡ valueOf n b s
 value-case n j b s r q e = rw q e
 
-pub query-case : (n j error : ℕ) (r : Told) → n ≡ j → r ≡ queryOf j error → r ≡ queryOf n error
-query-case n j error r q e = rw q e
+pub query-case : (n j error column : ℕ) (r : Told) → n ≡ j → r ≡ queryOf j error column → r ≡ queryOf n error column
+query-case n j error column r q e = rw q e
 
-pub tell-case : (q j : Question) (ours : ℕ) (b : Body) (s : State) (error : ℕ) (r : Told) → q ≡ j → r ≡ tellOf j ours b s error → r ≡ tellOf q ours b s error
-tell-case q j ours b s error r p e = rw p e
+pub tell-case : (q j : Question) (ours : ℕ) (b : Body) (s : State) (error column : ℕ) (r : Told) → q ≡ j → r ≡ tellOf j ours b s error column → r ≡ tellOf q ours b s error column
+tell-case q j ours b s error column r p e = rw p e
 
 pub rate-least : (b : Body) → BodyOk b → 39650 ≤ b .settings .rate
 rate-least b ok = kept-rate-is-near-40000 (b .settings) (ok .settings) .0

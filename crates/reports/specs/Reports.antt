@@ -69,15 +69,19 @@ valueOf n b s =
     else if eqb n 67 then Says (Whole (textIn s))
     else No
 
--- "Q or Q0 no data; Q1 one character, 40h plus the last error"
-unfoldable pub queryOf : ℕ → ℕ → Told
-queryOf n error = if eqb n 0 then Says Nothing else if eqb n 1 then Says (Character (64 + error)) else No
+-- "Q or Q0 no data; Q1 one character, 40h plus the last error"; 02, W-202: "Q2 reports the column", "Q3 and above stay 3"
+unfoldable pub queryOf : ℕ → ℕ → ℕ → Told
+queryOf n error column =
+    if eqb n 0 then Says Nothing
+    else if eqb n 1 then Says (Character (64 + error))
+    else if eqb n 2 then Says (Whole column)
+    else No
 
 -- "f the address"
-unfoldable pub tellOf : Question → ℕ → Body → State → ℕ → Told
-tellOf (Q.Query n) ours b s error = queryOf n error
-tellOf (Q.Value n) ours b s error = valueOf n b s
-tellOf Q.Address ours b s error = Says (Character ours)
+unfoldable pub tellOf : Question → ℕ → Body → State → ℕ → ℕ → Told
+tellOf (Q.Query n) ours b s error column = queryOf n error column
+tellOf (Q.Value n) ours b s error column = valueOf n b s
+tellOf Q.Address ours b s error column = Says (Character ours)
 
 -- what holds of every controller that comes from making and earlier calls, as far as reports need it
 pub record Tellable (b : Body) (e : ℕ) : Type 0 where

@@ -124,24 +124,25 @@ fn value(n: u32, b: Body, state: State) -> Told
 }
 
 // Q with a number.
-fn query(n: u32, error: u8) -> Told
+fn query(n: u32, error: u8, column: u32) -> Told
     requires { ⌜ error ≤ 15 ⌝ }
-    ensures { λ r. ⌜ r ≡ queryOf n error ⌝ }
+    ensures { λ r. ⌜ r ≡ queryOf n error column ⌝ }
 {
     match n {
         0 => Told::Says(Report::Nothing),
         1 => Told::Says(Report::Character(64 + error)),
+        2 => Told::Says(Report::Whole(column)),
         _ => Told::No,
     }
 }
 
-// What a report says: of our address's character, the plunger and the settings, the buffer's state and the last error.
-pub fn tell(q: Question, ours: u8, body: Body, state: State, error: u8) -> Told
+// What a report says: of our address's character, the plunger and the settings, the buffer's state, the last error and its column.
+pub fn tell(q: Question, ours: u8, body: Body, state: State, error: u8, column: u32) -> Told
     requires { ⌜ Tellable body error ⌝ }
-    ensures { λ r. ⌜ r ≡ tellOf q ours body state error ⌝ }
+    ensures { λ r. ⌜ r ≡ tellOf q ours body state error column ⌝ }
 {
     match q {
-        Question::Query(n) => query(n, error),
+        Question::Query(n) => query(n, error, column),
         Question::Value(n) => value(n, body, state),
         Question::Address => Told::Says(Report::Character(ours)),
     }

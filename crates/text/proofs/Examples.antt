@@ -79,7 +79,7 @@ cases =
     ∷ record { bytes = 82 ∷ 82 ∷ []; are = D.Wrong (Letter 0) }  -- `RR`
     ∷ record { bytes = 67 ∷ 82 ∷ []; are = D.Wrong (Letter 0) }  -- `CR`
     ∷ record { bytes = 103 ∷ 71 ∷ 32 ∷ 82 ∷ []; are = D.Text 2 true }  -- `gG R`
-    ∷ record { bytes = 103 ∷ 49 ∷ []; are = D.Wrong (Operand 1) }  -- `g1`
+    ∷ record { bytes = 103 ∷ 49 ∷ []; are = D.Wrong (Operand 1 0) }  -- `g1`
     ∷ record { bytes = 46 ∷ 103 ∷ []; are = D.Wrong (Letter 0) }  -- `.g`
     ∷ []
 

@@ -39,7 +39,7 @@ moved k (s ∷ steps) = movedStep k s ∷ moved k steps
 
 abbrev movedMisread : ℕ → Misread → Misread
 movedMisread k (R.Letter place) = R.Letter (k + place)
-movedMisread k (R.Operand place) = R.Operand (k + place)
+movedMisread k (R.Operand place read) = R.Operand (k + place) read
 
 abbrev movedReading : ℕ → Reading → Reading
 movedReading k (reads steps) = reads (moved k steps)
@@ -55,7 +55,7 @@ placed-moved : (k at n : ℕ) (f : Formed) → placed (k + at) n f ≡ movedFoun
 unfolding placed
 placed-moved k at n (Made c) = ap (F.Command c) (omega arith)
 placed-moved k at n NoLetter = refl
-placed-moved k at n WrongOperand = ap (λ p. F.Refused (R.Operand p)) (omega arith)
+placed-moved k at n (WrongOperand read) = ap (λ p. F.Refused (R.Operand p read)) (omega arith)
 
 then-moved : (k at : ℕ) (f : Found) (rest : Reading) → thenRead (k + at) (movedFound k f) (movedReading k rest) ≡ movedReading k (thenRead at f rest)
 then-moved k at (F.Command c next) (reads steps) = refl

@@ -27,7 +27,7 @@ pub record InFront (t : List ℕ) (n : ℕ) (run : Bool) : Type 0 where
   pub good : checkOf (take n t) ≡ Fine
   pub said : run ≡ runs t
 
-body-short : (t : List ℕ) → length (body t) ≤ length t
+pub body-short : (t : List ℕ) → length (body t) ≤ length t
 unfolding body
 body-short [] = omega arith
 body-short (b ∷ []) = go (eqb b 82)

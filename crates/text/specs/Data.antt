@@ -40,7 +40,7 @@ pub record KeptByte (before : List ℕ) (kept b r : ℕ) (after : List ℕ) : Ty
 unfoldable pub askedOf : Number → Asked
 askedOf N.Absent = A.Number 0
 askedOf (N.Is n decimals) = if eqb decimals 0 then A.Number (n / 1000) else A.Wrong
-askedOf N.Wrong = A.Wrong
+askedOf (N.Wrong read) = A.Wrong
 
 -- "all else is 3"
 abbrev pub report : (ℕ → Question) → Asked → Data

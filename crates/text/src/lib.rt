@@ -111,7 +111,7 @@ fn number_asked(n: Number) -> Asked
             }
             Asked::Wrong
         }
-        Number::Wrong => Asked::Wrong,
+        Number::Wrong(_) => Asked::Wrong,
     }
 }
 

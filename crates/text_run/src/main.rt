@@ -44,9 +44,9 @@ fn refused(r: Misread) {
             say(b"refused 2 at ");
             number(at);
         }
-        Misread::Operand(at) => {
+        Misread::Operand { place, read: _ } => {
             say(b"refused 3 at ");
-            number(at);
+            number(place);
         }
     }
 }

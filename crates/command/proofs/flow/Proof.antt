@@ -23,9 +23,9 @@ module _ (pace : Pace) (n : Number) where
   unfolding flowOf
   written range thousandths decimals t r e h a q = rw e (rw (a, h) at q)
 
-  wrong : n ≡ Wrong → Bad ≡ flowOf pace n
+  wrong : (read : ℕ) → n ≡ Wrong read → Bad ≡ flowOf pace n
   unfolding flowOf
-  wrong e = rw e
+  wrong read e = rw e
 
 ruleset laws = (needs, absent, written, wrong)
 

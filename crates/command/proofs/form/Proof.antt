@@ -4,13 +4,13 @@ use Prim.Native.Nat.{ℕ}
 use borrow.Author.Needs.{needs}
 use Rattle.settings.specs.declared.Pace.{Pace}
 use Rattle.settings.specs.declared.Quantity.{Quantity}
-use Rattle.operand.specs.declared.Number.{Number}
+use Rattle.operand.specs.declared.Single.{Single}
 use Rattle.operand.specs.declared.Pair.{Pair}
 use Rattle.command.specs.declared.Way.{Way}
 use Rattle.command.specs.declared.Letter.{Letter}
 use Rattle.command.specs.declared.Command.{Command}
 use Rattle.command.specs.declared.Formed.{Formed}
-use Rattle.command.specs.Table.{wholeOf, made, volumeOf, pacedOf, slopesOf, compensationOf, commandOf}
+use Rattle.command.specs.Table.{oneOf, volumeOf, pacedOf, slopesOf, compensationOf, commandOf}
 use Rattle.command.proofs.form.Statement.{statement}
 use Rattle.command.proofs.form.Tie as tie
 
@@ -19,7 +19,7 @@ arm letter l t r e h = rw e h
 
 -- what is made of the numbers that were read is made of the text
 module _ (r : Formed) where
-  of-one : (f : ℕ → Command) (q : Quantity) (n m : Number) → n ≡ m → r ≡ made f (wholeOf q n) → r ≡ made f (wholeOf q m)
+  of-one : (f : ℕ → Command) (q : Quantity) (n m : Single) → n ≡ m → r ≡ oneOf f q n → r ≡ oneOf f q m
   of-one f q n m e h = rw e at h
 
   module _ (p q : Pair) (e : p ≡ q) where

@@ -14,7 +14,7 @@ alone : (t : List ℕ) → length t ≡ 0 → Made C.Open ≡ commandOf Open t
 unfolding commandOf
 alone t h = rw (empty t h)
 
-followed : (t : List ℕ) → (length t ≡ 0 → ⊥) → WrongOperand ≡ commandOf Open t
+followed : (t : List ℕ) → (length t ≡ 0 → ⊥) → WrongOperand 0 ≡ commandOf Open t
 unfolding commandOf
 followed t h = rw (full t h)
 

@@ -16,9 +16,9 @@ module _ (at n : ℕ) (formed : Formed) where
   unfolding placed
   letter e = rw e
 
-  operand : (from : ℕ) → formed ≡ WrongOperand → from ≡ at + 1 → F.Refused (Operand from) ≡ placed at n formed
+  operand : (from read : ℕ) → formed ≡ WrongOperand read → from ≡ at + 1 → F.Refused (Operand from read) ≡ placed at n formed
   unfolding placed
-  operand from e h = rw (e, h)
+  operand from read e h = rw (e, h)
 
 made : (at from next : ℕ) (formed : Formed) (c : Command) → formed ≡ Made c → from ≡ at + 1 → from ≤ next → F.Command c next ≡ placed at (next - from) formed
 unfolding placed

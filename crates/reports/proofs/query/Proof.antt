@@ -9,4 +9,4 @@ ruleset laws = (needs, query-case, ne-eqb)
 
 pub query-spec : {M : Type 1} → statement M
 unfolding queryOf
-query-spec = tie.close (tie.spec (λ c. search laws) (λ c. search laws) (λ c. search laws) (λ c. search laws))
+query-spec = tie.close (tie.spec (λ c. search laws) (λ c. search laws) (λ c. search laws) (λ c. search laws) (λ c. search laws))

@@ -13,6 +13,7 @@ perform-spec =
     (λ c. search laws)
     (λ c κs. search laws)
     (λ c κs. search laws)
+    (λ c κs. search laws)
     (λ c. search laws)
     (λ c κs. search laws)
     (λ c. search laws)
