@@ -15,6 +15,7 @@ refusalNumber (R.Misread (Letter place)) = 2
 refusalNumber (R.Misread (Operand place read)) = 3
 refusalNumber R.Report = 3
 refusalNumber R.Loops = 3
+refusalNumber R.StartAboveTop = 3  -- 02, W-205
 refusalNumber R.Outside = 3
 -- "A, P or D taken while not initialised"
 refusalNumber R.NotInitialised = 7
@@ -39,6 +40,7 @@ refusalColumn (R.Misread (Letter place)) = columnAt place
 refusalColumn (R.Misread (Operand place read)) = columnAt place
 refusalColumn R.Report = 0
 refusalColumn R.Loops = 0
+refusalColumn R.StartAboveTop = 0
 refusalColumn R.Outside = 0
 refusalColumn R.NotInitialised = 0
 refusalColumn R.NothingToRun = 0

@@ -16,6 +16,8 @@ pub enum Refusal {
     Report,
     // Loops that are no tree of commands and loops, or deeper than 4.
     Loops,
+    // v above V.
+    StartAboveTop,
     // A goal outside travel.
     Outside,
     NotInitialised,
@@ -71,6 +73,7 @@ impl Refusal {
             Refusal::Misread(m) => m.number(),
             Refusal::Report => 3,
             Refusal::Loops => 3,
+            Refusal::StartAboveTop => 3,
             Refusal::Outside => 3,
             Refusal::NotInitialised => 7,
             Refusal::NothingToRun => 14,
@@ -87,6 +90,7 @@ impl Refusal {
             Refusal::Misread(m) => m.column(),
             Refusal::Report => 0,
             Refusal::Loops => 0,
+            Refusal::StartAboveTop => 0,
             Refusal::Outside => 0,
             Refusal::NotInitialised => 0,
             Refusal::NothingToRun => 0,

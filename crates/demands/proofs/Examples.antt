@@ -44,8 +44,8 @@ examples =
     ∷ ("Wb350A1090.459,1R" answers "@" ∷ 3 ticks 0 exact 0 ∷ "Q" answers "c" ∷ [])
     -- ● "Five times `P0.01,1` after W: plunger 2."
     ∷ ("WP0.01,1P0.01,1P0.01,1P0.01,1P0.01,1R" answers "@" ∷ 1 ticks 0 exact 0 ∷ 1 ticks 0 exact 400000 ∷ 10 ticks 2 exact 2000000 ∷ "Q" answers "`" ∷ [])
-    -- ● "V155.5: 1, 3, 4 increments after 1, 2, 3 ticks."
-    ∷ ("WV155.5A100R" answers "@" ∷ 3 ticks 0 exact 100000000 ∷ 1 ticks 1 exact 100000000 ∷ 1 ticks 3 exact 100000000 ∷ 1 ticks 4 exact 100000000 ∷ [])
+    -- ● "V155.5: 1, 3, 4 increments after 1, 2, 3 ticks." 02, W-205: "01's V155.5 example then sets v100 first."
+    ∷ ("Wv100V155.5A100R" answers "@" ∷ 4 ticks 0 exact 100000000 ∷ 1 ticks 1 exact 100000000 ∷ 1 ticks 3 exact 100000000 ∷ 1 ticks 4 exact 100000000 ∷ [])
     -- "● `V2.5,1` is 100.0; `V2.503,1` reports 100.1 and 2.503."
     ∷ ("V2.5,1R" answers "@" ∷ 1 ticks 0 exact 0 ∷ "?7" answers "`100.0" ∷ [])
     ∷ ("V2.503,1R" answers "@" ∷ 1 ticks 0 exact 0 ∷ "?7" answers "`100.1" ∷ "?19" answers "`2.503" ∷ [])
@@ -60,6 +60,9 @@ examples =
     -- 02, W-202, "Which column is wrong": a letter, an operand text, a control with more; a report, refused or not, leaves it; an accepted string, a loop refusal, !R and an error in a run make it 0
     ∷ ("TA1" answers "b" ∷ "Q2" answers "b1" ∷ "A5RA1" answers "b" ∷ "Q2" answers "b3" ∷ "Q3" answers "c" ∷ "Q2" answers "b3" ∷ " A 5 Z" answers "b" ∷ "Q2" answers "b3" ∷ "A5,1.0" answers "c" ∷ "Q2" answers "c2" ∷ "A5Wg5" answers "c" ∷ "Q2" answers "c5" ∷ "A5L" answers "`" ∷ "Q2" answers "`0" ∷ [])
     ∷ ("A44001Z" answers "c" ∷ "Q2" answers "c2" ∷ "G2R" answers "c" ∷ "Q2" answers "c0" ∷ "Z" answers "b" ∷ "!R" answers "`" ∷ "Q2" answers "`0" ∷ "A1R" answers "@" ∷ "Z" answers "B" ∷ "Q2" answers "B1" ∷ 1 ticks 0 exact 0 ∷ "Q2" answers "g0" ∷ [])
+    -- 02, W-205, "Slow start above top speed": 3 in the run, and the text is gone; equal speeds move; 7 comes first, also for a move of no distance
+    ∷ ("Wv200V199.9A0R" answers "@" ∷ 4 ticks 0 exact 0 ∷ "Q" answers "c" ∷ "?67" answers "c0" ∷ "Q2" answers "c0" ∷ "v199.9P5R" answers "@" ∷ 3 ticks 1 exact 5000000 ∷ "Q" answers "@" ∷ [])
+    ∷ ("v200V199.9A0R" answers "@" ∷ 3 ticks 0 exact 0 ∷ "Q" answers "g" ∷ [])
     -- "X: from Done, runs the text again": the fraction of the first run is kept
     ∷ ("WR" answers "@" ∷ 1 ticks 0 exact 0 ∷ "P0.01,1R" answers "@" ∷ 1 ticks 0 exact 400000 ∷ "X" answers "@" ∷ 2 ticks 1 exact 800000 ∷ [])
     -- the goal in a delay is the plunger
@@ -73,7 +76,7 @@ examples =
     -- strings without R, T, C and R
     ∷ ("A5" answers "`" ∷ "T" answers "`" ∷ "?67" answers "`1" ∷ "C" answers "`" ∷ "?67" answers "`0" ∷ "R" answers "n" ∷ "WA5" answers "`" ∷ "R" answers "@" ∷ 3 ticks 5 exact 5000000 ∷ [])
     -- each setting by its own command, here in the reverse order of the reports above; a second b replaces the first; a delay that ends leaves "initialised", and W that moves sets it
-    ∷ ("b350K7L5,6c400v300V200R" answers "@" ∷ 6 ticks 0 exact 0 ∷ "?4" answers "`7" ∷ "?6" answers "`300.0" ∷ "?7" answers "`200.0" ∷ "?8" answers "`400.0" ∷ "?9" answers "`5" ∷ "?10" answers "`6" ∷ "WA1,1R" answers "@" ∷ 21 ticks 38 exact 40350000 ∷ 1 ticks 40 exact 40350000 ∷ "M14b100,1A1,1R" answers "@" ∷ 4 ticks 40 exact 39900000 ∷ "WA5R" answers "@" ∷ 3 ticks 0 exact 5000000 ∷ "Q" answers "@" ∷ [])
+    ∷ ("b350K7L5,6c400v150V200R" answers "@" ∷ 6 ticks 0 exact 0 ∷ "?4" answers "`7" ∷ "?6" answers "`150.0" ∷ "?7" answers "`200.0" ∷ "?8" answers "`400.0" ∷ "?9" answers "`5" ∷ "?10" answers "`6" ∷ "WA1,1R" answers "@" ∷ 21 ticks 38 exact 40350000 ∷ 1 ticks 40 exact 40350000 ∷ "M14b100,1A1,1R" answers "@" ∷ 4 ticks 40 exact 39900000 ∷ "WA5R" answers "@" ∷ 3 ticks 0 exact 5000000 ∷ "Q" answers "@" ∷ [])
     -- 02, W-213: "3 in the loop check"; what was stored stays
     ∷ ("WA5" answers "`" ∷ "G3R" answers "c" ∷ "?67" answers "c1" ∷ "R" answers "@" ∷ 3 ticks 5 exact 5000000 ∷ [])
     ∷ []

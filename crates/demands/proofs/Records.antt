@@ -4,6 +4,7 @@ use mathlib.Core.Bool.{true, false, false≢true}
 use mathlib.Core.List.{List, [], _∷_}
 use Prim.Native.Nat.{ℕ}
 use native.Mathlib.Omega.{arith}
+use borrow.Author.Tests.{lt-ltb, le-ltb}
 use lib.Dec.{ltb}
 use Rattle.basics.proofs.Choice.{by}
 use Rattle.settings.specs.declared.Volume.{Volume}
@@ -26,7 +27,7 @@ use Rattle.machine.specs.Step.{takenOf, carriedOn, runningOf, activeOf, stepOf,
 use Rattle.machine.specs.Act.{haltOf, stopOf, changedOf, doneOf, actedOf, actOf}
 use Rattle.machine.specs.Device.{freshOf, tickOf, haltedOf}
 use Rattle.machine.specs.History.{moving}
-use Rattle.machine.specs.OnCourse.{Failing, uninitialised, outside}
+use Rattle.machine.specs.OnCourse.{Failing, uninitialised, steep, outside}
 use Rattle.pipettor.specs.declared.address.Address.{Address}
 use Rattle.pipettor.specs.declared.Controller.{Controller}
 use Rattle.pipettor.specs.Byte.{taskOf, performedOf, dealtOf}
@@ -56,7 +57,7 @@ module _ (k : Controller) where
 
   move-adds : (way : Way) (v : Volume) (c : CarriedOut k way v) → effectOf (C.Move way v) (k .device .core .body) .events ≡ eventOf way v (k .device .core .body .settings .rate) (c .exact) ∷ []
   unfolding effectOf moveOf aimed
-  move-adds way v c = rw (c .initialised, c .within)
+  move-adds way v c = rw (c .initialised, le-ltb (k .device .core .body .settings .top) (k .device .core .body .settings .start) (c .flat), c .within)
 
   moving-adds : (way : Way) (v : Volume) (c : CarriedOut k way v) → tickedOf k .events ≡ eventOf way v (k .device .core .body .settings .rate) (c .exact) ∷ []
   moving-adds way v c = taking (C.Move way v) (c .takes) ∙ move-adds way v c
@@ -68,7 +69,8 @@ module _ (k : Controller) where
   failing-adds : (command : Command) (why : Refusal) → Failing command (k .device .core .body) why → effectOf command (k .device .core .body) .events ≡ []
   unfolding effectOf moveOf aimed
   failing-adds command why (uninitialised way v e i) = rw (e, i)
-  failing-adds command why (outside way v e i out) = rw (e, i, out)
+  failing-adds command why (steep way v e i s) = rw (e, i, lt-ltb (k .device .core .body .settings .top) (k .device .core .body .settings .start) s)
+  failing-adds command why (outside way v e i flat out) = rw (e, i, le-ltb (k .device .core .body .settings .top) (k .device .core .body .settings .start) flat, out)
 
   others-add : (command : Command) → MovesNothing command → effectOf command (k .device .core .body) .events ≡ []
   unfolding effectOf

@@ -80,7 +80,7 @@ pub record Answers (k : Controller) : Type 0 where
   pub a-run-counts-its-ticks : (n : ℕ) → n ≤ 60000 → (count : ℕ) × Counted n k count
   -- no tick meets a command that doesn't read, nor a fifth loop, nor a G whose g isn't the innermost that the run holds open
   pub a-run-meets-a-command : k .device .core .course .state ≡ Running Between → OnCourse.Meets (k .device .text) (k .device .core .course)
-  -- a tick in which a run fails takes A, P or D, and fails by 7 where the plunger is not initialised, else by 3 for a goal outside travel, and in no other way;
+  -- a tick in which a run fails takes A, P or D, and fails by 7 where the plunger is not initialised, else by 3 where v is above V (02, W-205), else by 3 for a goal outside travel, and in no other way;
   -- it sets the last error, erases the text, and changes nothing else
   pub a-run-fails-by-7-or-3 :
       (doing : Activity) → k .device .core .course .state ≡ Running doing → tickedOf k .next .controller .device .core .course .state ≡ Empty →

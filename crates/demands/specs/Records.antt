@@ -1,5 +1,5 @@
 -- 01, demand 3: what starts the history of the exact position, what adds to it, and what adds nothing, call by call.
-use Prim.Native.Nat.{ℕ, _*_}
+use Prim.Native.Nat.{ℕ, _*_, _≤_}
 use mathlib.Core.Path.{_≡_}
 use mathlib.Core.Bool.{true, false}
 use mathlib.Core.List.{List, [], _∷_}
@@ -42,6 +42,7 @@ asked k v = millionthsOf v (k .device .core .body .settings .rate)
 pub record CarriedOut (k : Controller) (way : Way) (v : Volume) : Type 0 where
   pub takes : Takes k (C.Move way v)
   pub initialised : k .device .core .body .initialised ≡ true
+  pub flat : k .device .core .body .settings .start ≤ k .device .core .body .settings .top
   pub exact : ℕ
   pub within : targetOf way (asked k v) (k .device .core .body .exact) ≡ At exact
 

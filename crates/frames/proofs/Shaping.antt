@@ -1,9 +1,9 @@
--- Theorem: "v, c, L and K are kept and reported and don't shape motion": a tick does the same whatever they are.
+-- Theorem: "v, c, L and K are kept and reported and don't shape motion": a tick does the same whatever they are. With 02, W-205, it asks one thing of v: whether it is above V.
 use mathlib.Core.Path.{_≡_, refl, sym, ap, _∙_}
 use mathlib.Core.Bool.{Bool, true, false}
 use mathlib.Core.List.{List}
 use Prim.Native.Nat.{ℕ}
-use lib.Dec.{eqb, leb}
+use lib.Dec.{eqb, ltb, leb}
 use lib.ListN.{take}
 use Rattle.basics.specs.Choice.{if_then_else_}
 use Rattle.settings.specs.declared.Volume.{Volume}
@@ -82,20 +82,29 @@ module _ (v c up down k : ℕ) where
   aimed-same (At exact) way n b = record { next = whichever shapeOf (eqb (b .plunger) (goalOf exact)) _ _ _ _ refl refl; events = refl }
   aimed-same Outside way n b = record { next = refl; events = refl }
 
-  effect-same : (x : Command) (b : Body) → Same shapeOf (effectOf x (other b)) (effectOf x b)
+  -- v is above V in both or in neither
+  abbrev AsBefore : Body → Type 0
+  AsBefore b = ltb (b .settings .top) v ≡ ltb (b .settings .top) (b .settings .start)
+
+  effect-same : (x : Command) (b : Body) → AsBefore b → Same shapeOf (effectOf x (other b)) (effectOf x b)
   unfolding effectOf homeOf moveOf delayOf
-  effect-same (C.Initialise speed) b = record { next = whichever shapeOf (eqb (b .plunger) 0) _ _ _ _ refl refl; events = refl }
-  effect-same (C.Move way n) b =
-      either shapeOf (b .initialised) _ _ _ _ (aimed-same (targetOf way (millionthsOf n (b .settings .rate)) (b .exact)) way n b) (record { next = refl; events = refl })
-  effect-same (C.Speed Top n) b = record { next = refl; events = refl }
-  effect-same (C.Speed Start n) b = record { next = refl; events = refl }
-  effect-same (C.Speed Cutoff n) b = record { next = refl; events = refl }
-  effect-same (C.Slopes x y) b = record { next = refl; events = refl }
-  effect-same (C.Backlash n) b = record { next = refl; events = refl }
-  effect-same (C.Compensate n way) b = record { next = refl; events = refl }
-  effect-same (C.Delay ms) b = record { next = whichever shapeOf (eqb (ticksOf ms) 0) _ _ _ _ refl refl; events = refl }
-  effect-same C.Open b = record { next = refl; events = refl }
-  effect-same (C.Close n) b = record { next = refl; events = refl }
+  effect-same (C.Initialise speed) b s = record { next = whichever shapeOf (eqb (b .plunger) 0) _ _ _ _ refl refl; events = refl }
+  effect-same (C.Move way n) b s =
+      rw s
+      (either shapeOf (b .initialised) _ _ _ _
+      (either shapeOf (ltb (b .settings .top) (b .settings .start)) _ _ _ _
+      (record { next = refl; events = refl })
+      (aimed-same (targetOf way (millionthsOf n (b .settings .rate)) (b .exact)) way n b))
+      (record { next = refl; events = refl }))
+  effect-same (C.Speed Top n) b s = record { next = refl; events = refl }
+  effect-same (C.Speed Start n) b s = record { next = refl; events = refl }
+  effect-same (C.Speed Cutoff n) b s = record { next = refl; events = refl }
+  effect-same (C.Slopes x y) b s = record { next = refl; events = refl }
+  effect-same (C.Backlash n) b s = record { next = refl; events = refl }
+  effect-same (C.Compensate n way) b s = record { next = refl; events = refl }
+  effect-same (C.Delay ms) b s = record { next = whichever shapeOf (eqb (ticksOf ms) 0) _ _ _ _ refl refl; events = refl }
+  effect-same C.Open b s = record { next = refl; events = refl }
+  effect-same (C.Close n) b s = record { next = refl; events = refl }
 
   carried-same : (kind : Travel → Activity) (known : Bool) (t : Travel) (b : Body) → shapeOf (carried kind known t (other b)) ≡ shapeOf (carried kind known t b)
   unfolding carried
@@ -123,28 +132,28 @@ module _ (v c up down k : ℕ) where
   applied-same : (e f : Effect) (next : ℕ) (x : Core) → shapeOf e ≡ shapeOf f → shapeBehind (appliedOf e next (otherIn x)) ≡ shapeBehind (appliedOf f next x)
   applied-same e f next x p = applied-shape e next (otherIn x) ∙ ap (λ (g : Effect). appliedOf g next (shapeIn x)) p ∙ sym (applied-shape f next x)
 
-  taken-same : (f : Found) (x : Core) → Same shapeBehind (takenOf f (otherIn x)) (takenOf f x)
+  taken-same : (f : Found) (x : Core) → AsBefore (x .body) → Same shapeBehind (takenOf f (otherIn x)) (takenOf f x)
   unfolding takenOf
-  taken-same (F.Command y next) x =
-      let s = effect-same y (x .body) in
+  taken-same (F.Command y next) x h =
+      let s = effect-same y (x .body) h in
       record { next = applied-same (effectOf y (other (x .body)) .next) (effectOf y (x .body) .next) next x (s .next); events = s .events }
-  taken-same (F.Refused m) x = record { next = refl; events = refl }
-  taken-same F.End x = record { next = refl; events = refl }
+  taken-same (F.Refused m) x h = record { next = refl; events = refl }
+  taken-same F.End x h = record { next = refl; events = refl }
 
-  running-same : (a : Activity) (w : Around) (x : Core) → Same shapeBehind (runningOf a w (otherIn x)) (runningOf a w x)
+  running-same : (a : Activity) (w : Around) (x : Core) → AsBefore (x .body) → Same shapeBehind (runningOf a w (otherIn x)) (runningOf a w x)
   unfolding runningOf carriedOn
-  running-same a w x =
+  running-same a w x h =
       let s = onward-same a (x .body) in
-      either shapeBehind (between a) _ _ _ _ (taken-same (commandAt (take (x .course .len) (w .text)) (x .course .at)) x)
+      either shapeBehind (between a) _ _ _ _ (taken-same (commandAt (take (x .course .len) (w .text)) (x .course .at)) x h)
       (record { next = applied-same (onwardOf a (other (x .body)) .next) (onwardOf a (x .body) .next) (x .course .at) x (s .next); events = s .events })
 
-  active-same : (s : State) (w : Around) (x : Core) → Same shapeBehind (activeOf s w (otherIn x)) (activeOf s w x)
+  active-same : (s : State) (w : Around) (x : Core) → AsBefore (x .body) → Same shapeBehind (activeOf s w (otherIn x)) (activeOf s w x)
   unfolding activeOf
-  active-same (Running a) w x = running-same a w x
-  active-same Empty w x = record { next = refl; events = refl }
-  active-same Stored w x = record { next = refl; events = refl }
-  active-same Stopped w x = record { next = refl; events = refl }
-  active-same Done w x = record { next = refl; events = refl }
+  active-same (Running a) w x h = running-same a w x h
+  active-same Empty w x h = record { next = refl; events = refl }
+  active-same Stored w x h = record { next = refl; events = refl }
+  active-same Stopped w x h = record { next = refl; events = refl }
+  active-same Done w x h = record { next = refl; events = refl }
 
 -- two ticks that leave all but v, c, L and K the same: where the plunger is and is to be, what is in progress and how far, the run, V, C and the history
 pub record SameMotion (t u : Turn Turned) : Type 0 where
@@ -158,11 +167,11 @@ pub record SameMotion (t u : Turn Turned) : Type 0 where
   pub events : t .events ≡ u .events
 
 pub v-c-L-and-K-do-not-shape-motion :
-    (v c up down k : ℕ) (d : Device) →
+    (v c up down k : ℕ) (d : Device) → ltb (d .core .body .settings .top) v ≡ ltb (d .core .body .settings .top) (d .core .body .settings .start) →
     SameMotion (tickOf (device (d .text) (core (bodySet (settingsOf (d .core .body .settings .top) v c up down k (d .core .body .settings .rate)) (d .core .body)) (d .core .course)))) (tickOf d)
 unfolding tickOf stepOf
-v-c-L-and-K-do-not-shape-motion v c up down k d =
-    let s = active-same v c up down k (d .core .course .state) (around (d .text)) (d .core) in
+v-c-L-and-K-do-not-shape-motion v c up down k d above =
+    let s = active-same v c up down k (d .core .course .state) (around (d .text)) (d .core) above in
     record {
       plunger = ap (λ (x : Stepped). x .core .body .plunger) (s .next);
       exact = ap (λ (x : Stepped). x .core .body .exact) (s .next);

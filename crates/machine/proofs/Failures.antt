@@ -4,7 +4,7 @@ use mathlib.Core.Bool.{Bool, true, false}
 use mathlib.Core.List.{List}
 use Prim.Native.Nat.{ℕ, _<_}
 use native.Mathlib.Omega.{arith}
-use borrow.Author.Tests.{lt-ltb, ne-eqb}
+use borrow.Author.Tests.{ltb-true, ltb-false, lt-ltb, le-ltb, ne-eqb}
 use lib.Dec.{ltb, leb, eqb}
 use lib.ListN.{take}
 use Rattle.basics.specs.Choice.{if_then_else_}
@@ -45,7 +45,7 @@ use Rattle.text.proofs.Inside.{the-commands-before-a-place-read}
 use Rattle.machine.specs.History.{Call, after}
 use Rattle.machine.proofs.Looping.{closed-by}
 use Rattle.machine.proofs.OnWay.{ahead-of, way-room, way-ends, way-deep, way-start}
-use Rattle.machine.specs.OnCourse.{Meets, Failing, uninitialised, outside, Fault, OnWay, Ahead, CourseOn, AllSent}
+use Rattle.machine.specs.OnCourse.{Meets, Failing, uninitialised, steep, outside, Fault, OnWay, Ahead, CourseOn, AllSent}
 use Rattle.machine.proofs.OnCourse.{Fits, effect-fits, onward-fits, every-device-is-on-course}
 
 -- what on course means: the text reads, its loops are right, and the commands before the run's place leave as many open as the run holds
@@ -110,9 +110,12 @@ unfolding effectOf homeOf moveOf delayOf
 effect-fails (C.Initialise n) b why d = λ e. never (eqb (b .plunger) 0) _ _ d _ why e
 effect-fails (C.Move way v) b why d =
     by (λ (e : Turn Effect). e .next ≡ Fails why d → FailsSo (C.Move way v) b why d) (b .initialised)
-    (λ h e.
+    (λ h.
+    by (λ (e : Turn Effect). e .next ≡ Fails why d → FailsSo (C.Move way v) b why d) (ltb (b .settings .top) (b .settings .start))
+    (λ s e. let is : why ≡ R.StartAboveTop = cc in let same : d ≡ b = cc in rw is (record { cause = steep way v refl h (ltb-true (b .settings .top) (b .settings .start) s); body = same }))
+    (λ s e.
     let (is, same, out) = aimed-fails (targetOf way (millionthsOf v (b .settings .rate)) (b .exact)) way v b why d e in
-    rw is (record { cause = outside way v refl h out; body = same }))
+    rw is (record { cause = outside way v refl h (omega (arith, ltb-false (b .settings .top) (b .settings .start) s)) out; body = same })))
     (λ h e. let is : why ≡ R.NotInitialised = cc in let same : d ≡ b = cc in rw is (record { cause = uninitialised way v refl h; body = same }))
 effect-fails (C.Speed pace n) b why d = λ e. never-ends _ d why e
 effect-fails (C.Slopes up down) b why d = λ e. never-ends _ d why e
@@ -217,7 +220,8 @@ module _ (text : List ℕ) (c : Core) where
 must-fail : (k : Command) (b : Body) (why : Refusal) → Failing k b why → effectOf k b .next ≡ Fails why b
 unfolding effectOf moveOf aimed
 must-fail k b why (uninitialised way v e i) = rw (e, i)
-must-fail k b why (outside way v e i out) = rw (e, i, out)
+must-fail k b why (steep way v e i s) = rw (e, i, lt-ltb (b .settings .top) (b .settings .start) s)
+must-fail k b why (outside way v e i flat out) = rw (e, i, le-ltb (b .settings .top) (b .settings .start) flat, out)
 
 pub a-command-that-must-fail-fails :
     (text : List ℕ) (c : Core) (k : Command) (next : ℕ) (why : Refusal) → c .course .state ≡ Running Between →

@@ -24,7 +24,8 @@ use Rattle.motion.specs.declared.Activity.the-variants.{Initialising, Moving, D
 use Rattle.motion.specs.declared.Effect.{Effect}
 use Rattle.motion.specs.declared.Effect.the-variants.{Goes, Ends, Fails, Opens, Closes}
 use Rattle.motion.specs.Events.{Turn}
-use Rattle.motion.specs.Motion.{laterOf, plungerOf, homeOf, targetOf, setOut, aimed, moveOf, delayOf, effectOf, carried, waitedOf, onwardOf, between, cutOf}
+use Rattle.motion.specs.Motion.{laterOf, plungerOf, homeOf, targetOf, setOut, aimed, delayOf, effectOf, carried, waitedOf, onwardOf, between, cutOf}
+use Rattle.motion.proofs.Moves.{move-by}
 use Rattle.buffer.specs.declared.course.State.{State}
 use Rattle.buffer.specs.declared.course.State.the-variants.{Empty, Stored, Running, Stopped, Done}
 use Rattle.buffer.specs.declared.course.Loops.{Loops}
@@ -79,12 +80,10 @@ module _ (b : Body) where
   aimed-homes Outside way v = tt
 
   effect-homes : (k : Command) → EffectHomes (effectOf k b .next)
-  unfolding effectOf homeOf moveOf delayOf
+  unfolding effectOf homeOf delayOf
   effect-homes (Command.Initialise n) = by EffectHomes (eqb (b .plunger) 0) (λ h. tt) (λ h. refl)
   effect-homes (Command.Move way v) =
-      by (λ (t : Turn Effect). EffectHomes (t .next)) (b .initialised)
-      (λ h. aimed-homes (targetOf way (millionthsOf v (b .settings .rate)) (b .exact)) way v)
-      (λ h. tt)
+      move-by (λ (t : Turn Effect). EffectHomes (t .next)) way v b (λ why. tt) (aimed-homes (targetOf way (millionthsOf v (b .settings .rate)) (b .exact)) way v)
   effect-homes (Command.Speed pace n) = tt
   effect-homes (Command.Slopes up down) = tt
   effect-homes (Command.Backlash n) = tt

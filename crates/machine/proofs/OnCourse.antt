@@ -23,7 +23,8 @@ use Rattle.motion.specs.declared.Target.the-variants as Target
 use Rattle.motion.specs.declared.Effect.{Effect}
 use Rattle.motion.specs.declared.Effect.the-variants.{Goes, Ends, Fails, Opens, Closes}
 use Rattle.motion.specs.Events.{Turn}
-use Rattle.motion.specs.Motion.{laterOf, plungerOf, homeOf, targetOf, setOut, aimed, moveOf, delayOf, effectOf, carried, waitedOf, onwardOf, between}
+use Rattle.motion.specs.Motion.{laterOf, plungerOf, homeOf, targetOf, setOut, aimed, delayOf, effectOf, carried, waitedOf, onwardOf, between}
+use Rattle.motion.proofs.Moves.{move-by}
 use Rattle.command.specs.declared.Way.{Way}
 use Rattle.command.specs.declared.Command.{Command}
 use Rattle.command.specs.declared.Command.the-variants as C
@@ -87,12 +88,10 @@ aimed-fits (Target.At exact) way v b = by (λ (e : Effect). Fits e plain) (eqb (
 aimed-fits Target.Outside way v b = tt
 
 pub effect-fits : (k : Command) (b : Body) → Fits (effectOf k b .next) (partOf k)
-unfolding effectOf homeOf moveOf delayOf
+unfolding effectOf homeOf delayOf
 effect-fits (C.Initialise n) b = by (λ (e : Effect). Fits e plain) (eqb (b .plunger) 0) (λ h. refl) (λ h. (refl, refl))
 effect-fits (C.Move way v) b =
-    by (λ (e : Turn Effect). Fits (e .next) plain) (b .initialised)
-    (λ h. aimed-fits (targetOf way (millionthsOf v (b .settings .rate)) (b .exact)) way v b)
-    (λ h. tt)
+    move-by (λ (e : Turn Effect). Fits (e .next) plain) way v b (λ why. tt) (aimed-fits (targetOf way (millionthsOf v (b .settings .rate)) (b .exact)) way v b)
 effect-fits (C.Speed pace n) b = refl
 effect-fits (C.Slopes up down) b = refl
 effect-fits (C.Backlash n) b = refl

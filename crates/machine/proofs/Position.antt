@@ -30,6 +30,7 @@ use Rattle.motion.specs.declared.Target.{Target}
 use Rattle.motion.specs.declared.Target.the-variants.{At, Outside}
 use Rattle.motion.specs.Events.{Turn}
 use Rattle.motion.specs.Motion.{laterOf, plungerOf, homeOf, within, targetOf, setOut, eventOf, aimed, moveOf, delayOf, effectOf, carried, waitedOf, onwardOf, inMotion, between, cutOf, resetOf}
+use Rattle.motion.proofs.Moves.{move-by}
 use Rattle.buffer.specs.declared.course.State.{State}
 use Rattle.buffer.specs.declared.course.State.the-variants.{Empty, Stored, Running, Stopped, Done}
 use Rattle.buffer.specs.declared.course.Loops.{Loops}
@@ -145,12 +146,11 @@ module _ (b : Body) (s : Sum) (told : Told (b .plunger) (b .exact) s) where
   aimed-tells Outside way v h = told
 
   move-tells : (way : Way) (v : Volume) → EffectTold b (moveOf way v b .next) (addedUp s (moveOf way v b .events))
-  unfolding moveOf addedUp
+  unfolding addedUp
   move-tells way v =
       let volume = millionthsOf v (b .settings .rate) in
-      by (λ (t : Turn Effect). EffectTold b (t .next) (addedUp s (t .events))) (b .initialised)
-      (λ h. aimed-tells (targetOf way volume (b .exact)) way v (target-lands way volume (b .exact)))
-      (λ h. told)
+      move-by (λ (t : Turn Effect). EffectTold b (t .next) (addedUp s (t .events))) way v b (λ why. told)
+      (aimed-tells (targetOf way volume (b .exact)) way v (target-lands way volume (b .exact)))
 
   delay-tells : (ms : ℕ) → EffectTold b (delayOf ms b) s
   unfolding delayOf

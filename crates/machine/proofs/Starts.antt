@@ -3,8 +3,7 @@
 use mathlib.Core.Path.{_≡_, refl}
 use mathlib.Core.Bool.{true, false}
 use mathlib.Core.List.{[], _∷_}
-use Prim.Native.Nat.{ℕ, _+_, _-_, _*_, _≤_}
-use Rattle.basics.proofs.Choice.{by}
+use Prim.Native.Nat.{ℕ, _+_, _-_, _*_, _≤_, _<_}
 use Rattle.basics.proofs.Rules.{tests}
 use Rattle.settings.specs.declared.Volume.{Volume}
 use Rattle.settings.specs.Units.{millionthsOf}
@@ -15,6 +14,7 @@ use Rattle.motion.specs.declared.Activity.{Activity}
 use Rattle.motion.specs.declared.Effect.{Effect}
 use Rattle.motion.specs.declared.Target.the-variants.{Outside}
 use Rattle.motion.specs.Events.{start, volume, Turn}
+use Rattle.motion.proofs.Moves.{move-by}
 use Rattle.motion.specs.Motion.{freshBody, homeOf, within, targetOf, aimed, moveOf, inMotion, cutOf, resetOf}
 use Rattle.machine.specs.Device.{freshOf}
 
@@ -28,7 +28,7 @@ module _ (b : Body) where
   initialising-starts-at-0 speed = refl
 
   -- A, P and D that are carried out
-  module _ (v : Volume) (known : b .initialised ≡ true) where
+  module _ (v : Volume) (known : b .initialised ≡ true) (flat : b .settings .start ≤ b .settings .top) where
     pub an-absolute-move-starts-at-the-place-asked-for : millionthsOf v (b .settings .rate) ≤ 44000000000 → moveOf To v b .events ≡ start (millionthsOf v (b .settings .rate)) ∷ []
     unfolding moveOf targetOf within aimed
     an-absolute-move-starts-at-the-place-asked-for h = simp (known, tests)
@@ -44,7 +44,11 @@ module _ (b : Body) where
   -- and those that are refused
   pub a-move-outside-travel-leaves-no-trace : (way : Way) (v : Volume) → targetOf way (millionthsOf v (b .settings .rate)) (b .exact) ≡ Outside → moveOf way v b .events ≡ []
   unfolding moveOf aimed
-  a-move-outside-travel-leaves-no-trace way v h = rw h (by (λ (t : Turn Effect). t .events ≡ []) (b .initialised) (λ k. refl) (λ k. refl))
+  a-move-outside-travel-leaves-no-trace way v h = move-by (λ (t : Turn Effect). t .events ≡ []) way v b (λ why. refl) (rw h)
+
+  pub a-move-with-v-above-V-leaves-no-trace : (way : Way) (v : Volume) → b .initialised ≡ true → b .settings .top < b .settings .start → moveOf way v b .events ≡ []
+  unfolding moveOf
+  a-move-with-v-above-V-leaves-no-trace way v known h = simp (known, tests)
 
   pub a-move-before-initialising-leaves-no-trace : (way : Way) (v : Volume) → b .initialised ≡ false → moveOf way v b .events ≡ []
   unfolding moveOf

@@ -1,5 +1,5 @@
 -- On course: what holds of every device that comes from making and earlier calls. No function asks for it.
-use Prim.Native.Nat.{ℕ, _+_, _<_}
+use Prim.Native.Nat.{ℕ, _+_, _≤_, _<_}
 use mathlib.Core.Path.{_≡_}
 use mathlib.Core.Bool.{Bool, true, false}
 use mathlib.Core.List.{List, [], _∷_}
@@ -120,8 +120,10 @@ pub record Meets (text : List ℕ) (c : Course) : Type 0 where
 -- a movement that a run can't carry out: "7 is checked before 3"
 pub data Failing (k : Command) (b : Body) : Refusal → Type 0 where
   uninitialised : (way : Way) (v : Volume) → k ≡ C.Move way v → b .initialised ≡ false → Failing k b R.NotInitialised
+  -- 02, W-205: "A, P or D taken while v is greater than V"; "after 7 and before the travel check"
+  steep : (way : Way) (v : Volume) → k ≡ C.Move way v → b .initialised ≡ true → b .settings .top < b .settings .start → Failing k b R.StartAboveTop
   outside :
-      (way : Way) (v : Volume) → k ≡ C.Move way v → b .initialised ≡ true →
+      (way : Way) (v : Volume) → k ≡ C.Move way v → b .initialised ≡ true → b .settings .start ≤ b .settings .top →
       targetOf way (millionthsOf v (b .settings .rate)) (b .exact) ≡ Outside → Failing k b R.Outside
 
 -- a tick in which a run fails

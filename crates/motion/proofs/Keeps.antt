@@ -33,6 +33,7 @@ use Rattle.motion.specs.Events.{Turn}
 use Rattle.motion.specs.Motion.{travel, laterOf, plungerOf, homeOf, targetOf, setOut, aimed, moveOf, pacedOf, slopedOf, backlashOf, ratedOf, delayOf, effectOf, carried, waitedOf, onwardOf, inMotion, cutOf, resetOf, freshBody}
 use Rattle.motion.specs.Bounds.{BodyOk, TravelOk, ActivityOk, EffectOk}
 use Rattle.motion.proofs.Within.{target-within}
+use Rattle.motion.proofs.Moves.{move-by}
 
 -- a movement's plunger lies between its two ends
 pub plunger-between : (t : Travel) → t .from ≤ 44000 → t .goal ≤ 44000 → plungerOf t ≤ 44000
@@ -86,12 +87,9 @@ module _ (b : Body) (ok : BodyOk b) where
   aimed-keeps Outside way v h = ok
 
   move-keeps : (way : Way) (v : Volume) → EffectOk (moveOf way v b .next)
-  unfolding moveOf
   move-keeps way v =
-      let target = targetOf way (millionthsOf v (b .settings .rate)) (b .exact) in
-      by (λ (t : Turn Effect). EffectOk (t .next)) (b .initialised)
-      (λ e. aimed-keeps target way v (λ exact. target-within way (millionthsOf v (b .settings .rate)) (b .exact) exact))
-      (λ e. ok)
+      let by-it = millionthsOf v (b .settings .rate) in
+      move-by (λ (t : Turn Effect). EffectOk (t .next)) way v b (λ why. ok) (aimed-keeps (targetOf way by-it (b .exact)) way v (λ exact. target-within way by-it (b .exact) exact))
 
   delay-keeps : (ms : ℕ) → EffectOk (delayOf ms b)
   unfolding delayOf

@@ -1,3 +1,4 @@
+pub mod Moves
 pub mod Cases
 pub mod Within
 pub mod Keeps

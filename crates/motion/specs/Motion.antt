@@ -86,11 +86,14 @@ unfoldable pub aimed : Target → Way → Volume → Body → Turn Effect
 aimed (At exact) way v b = told (eventOf way v (b .settings .rate) exact) (setOut exact b)
 aimed Outside way v b = quiet (Fails R.Outside b)
 
--- "7 is checked before 3."
+-- "7 is checked before 3." 02, W-205: "A, P or D taken while v is greater than V shall be refused"; "3 in the run, after 7 and before the travel check"
 unfoldable pub moveOf : Way → Volume → Body → Turn Effect
 moveOf way v b =
     if b .initialised
-    then aimed (targetOf way (millionthsOf v (b .settings .rate)) (b .exact)) way v b
+    then (
+    if ltb (b .settings .top) (b .settings .start)
+    then quiet (Fails R.StartAboveTop b)
+    else aimed (targetOf way (millionthsOf v (b .settings .rate)) (b .exact)) way v b)
     else quiet (Fails R.NotInitialised b)
 
 -- settings with one of them changed

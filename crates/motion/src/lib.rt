@@ -268,6 +268,9 @@ impl Body {
             return Effect::Fails(Refusal::NotInitialised, self);
         }
         let settings = self.settings;
+        if settings.top < settings.start {
+            return Effect::Fails(Refusal::StartAboveTop, self);
+        }
         let by = volume.millionths(settings.rate);
         match asked_for(way, by, self.exact) {
             Target::At(exact) => self.set_out(exact),

@@ -471,7 +471,7 @@ fn settings() {
     say(b"Settings\n");
     let set = keeps(
         made(Address::One),
-        b"/1WA1000V200v300c400L5,6K7b100P0.01,1R\r\n",
+        b"/1WA1000V200v150c400L5,6K7b100P0.01,1R\r\n",
         30,
     );
     let moved = method(controls(set), b"/1D0.02,1R\r\n", 2);

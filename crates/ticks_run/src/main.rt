@@ -17,7 +17,7 @@ fn method() -> Controller
     ensures { λ r. ⌜ Held r ⌝ }
 {
     let c = Controller::fresh(Address::One);
-    let heard = c.listen(b"/1WV100gA44000A0G0R");
+    let heard = c.listen(b"/1Wv100V100gA44000A0G0R");
     end_frame(heard.controller)
 }
 
