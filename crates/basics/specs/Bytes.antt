@@ -1,5 +1,7 @@
--- Bytes by their kind, and what digits spell.
+-- Bytes by their kind, characters as bytes, and what digits spell.
 use Prim.Native.Nat.{ℕ, _+_, _-_, _*_, _^_}
+use Prim.Native.String.{String, [] as end, _∷_ as _before_}
+use Prim.Native.Char.{code}
 use mathlib.Core.Bool.{Bool, true, _&&_}
 use mathlib.Core.List.{List, [], _∷_}
 use lib.Dec.{leb}
@@ -11,6 +13,11 @@ zeroDigit = 48
 
 abbrev pub point : ℕ
 point = 46
+
+-- a text as it is typed
+abbrev pub chars : String → List ℕ
+chars end = []
+chars (c before s) = code c ∷ chars s
 
 -- a digit is 30h to 39h
 unfoldable pub digit : ℕ → Bool

@@ -1,4 +1,6 @@
-// The bench program: a pipettor of address 1 at standard input and output.
+// The bench program.
+use desk::Desk;
+
 fn main() {
-    console::serve();
+    console::serve(Desk::Bench);
 }

@@ -2,11 +2,11 @@
 use line::Line;
 use pipettor::Controller;
 use pipettor::address::Address;
-ghost use Rattle.pipettor.specs.Held.{Held};
+ghost use Rattle.pipettor.specs.Valid.{Valid};
 
 fn hear(start: Controller, bytes: &[u8]) -> Controller
-    requires { ⌜ Held start ⌝ }
-    ensures { λ r. ⌜ Held r ⌝ }
+    requires { ⌜ Valid start ⌝ }
+    ensures { λ r. ⌜ Valid r ⌝ }
 {
     let mut c = start;
     let mut rounds = 0u32;

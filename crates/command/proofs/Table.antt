@@ -3,10 +3,9 @@ use mathlib.Core.Path.{_≡_, refl}
 use mathlib.Core.Bool.{true, false}
 use mathlib.Core.List.{List, [], _∷_}
 use Prim.Native.Nat.{ℕ}
-use Prim.Native.Char.{code}
-use Prim.Native.String.{String, [] as end, _∷_ as _before_}
+use Prim.Native.String.{String}
 use lib.ListN.{length}
-use Rattle.basics.specs.Bytes.{digit, every, valueOf}
+use Rattle.basics.specs.Bytes.{chars, digit, every, valueOf}
 use Rattle.settings.specs.declared.Pace.the-variants.{Top, Start, Cutoff}
 use Rattle.settings.specs.Limits.{within}
 use Rattle.settings.specs.Units.{nearest, tenthsOf}
@@ -38,10 +37,6 @@ n increments way = moveBy way false n
 abbrev _nL_ : ℕ → Way → Command
 n nL way = moveBy way true n
 
-abbrev pub bytes : String → List ℕ
-bytes end = []
-bytes (c before s) = code c ∷ bytes s
-
 -- what the definitions say of a text: a command and the place behind it, a number of 01, or nothing
 pub data Answer : Type 0 where
   command : Command → ℕ → Answer
@@ -55,13 +50,13 @@ answer F.End = nothing
 
 abbrev pub answersOf : List Row → List Answer
 answersOf [] = []
-answersOf (text reads k ∷ rows) = answer (commandAt (bytes text) 0) ∷ answersOf rows
-answersOf (text refused n ∷ rows) = answer (commandAt (bytes text) 0) ∷ answersOf rows
+answersOf (text reads k ∷ rows) = answer (commandAt (chars text) 0) ∷ answersOf rows
+answersOf (text refused n ∷ rows) = answer (commandAt (chars text) 0) ∷ answersOf rows
 
 -- and what the rows say
 abbrev pub expectedOf : List Row → List Answer
 expectedOf [] = []
-expectedOf (text reads k ∷ rows) = command k (length (bytes text)) ∷ expectedOf rows
+expectedOf (text reads k ∷ rows) = command k (length (chars text)) ∷ expectedOf rows
 expectedOf (text refused n ∷ rows) = refusal n ∷ expectedOf rows
 
 abbrev pub table : List Row
@@ -219,7 +214,7 @@ pub data Part : Type 0 where
 
 abbrev pub foundOf : List Part → List Found
 foundOf [] = []
-foundOf (text read n ∷ rows) = commandAt (bytes text) 0 ∷ foundOf rows
+foundOf (text read n ∷ rows) = commandAt (chars text) 0 ∷ foundOf rows
 
 abbrev pub refusedOf : List Part → List Found
 refusedOf [] = []

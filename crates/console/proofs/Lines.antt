@@ -8,8 +8,8 @@ use mir.Syntax.{w64}
 use mir.Val.{Fits}
 use borrow.Author.Tests.{leb-true, leb-false, ltb-false, lt-ltb}
 use lib.Dec.{leb, ltb, eqb}
-use lib.ListN.{length, take, drop, length-append, length-drop, drop-of-length-le}
-use lib.Seq.{take-at, drop-nil, length-take-le}
+use lib.ListN.{length, take, drop, length-append, length-take, length-drop, drop-of-length-le}
+use lib.Seq.{take-at, drop-drop, length-take-le}
 use Rattle.basics.specs.Choice.{if_then_else_}
 use Rattle.basics.specs.declared.Put.{Put}
 use Rattle.basics.specs.declared.Put.the-variants.{Bytes, NoRoom}
@@ -21,10 +21,12 @@ use Rattle.basics.proofs.Over.{length-over}
 use Rattle.basics.proofs.Rules.{by-order}
 use Rattle.desk.specs.Desk.{lineOf, LineEnd}
 use Rattle.desk.proofs.Lines.{long}
-use Rattle.pipettor.specs.declared.Controller.{Controller}
-use Rattle.console.specs.Serve.{didOf, servedOf}
-use Rattle.console.specs.Print.{questionMark, textFor, replyOf, Replies}
-use Rattle.console.specs.Eaten.{Bench, bench, longer, endedLine, eatenOf, Keeps, Gathers, Memory, memory, Sound, Stands, Eats}
+use Rattle.desk.specs.declared.Asked.{Asked}
+use Rattle.desk.specs.declared.Asked.the-variants.{Wrong}
+use Rattle.station.specs.declared.Station.{Station}
+use Rattle.station.specs.declared.Replied.{Replied}
+use Rattle.station.specs.Serve.{Served, didOf, servedOf, Replies}
+use Rattle.console.specs.Eaten.{Program, program, longer, endedLine, eatenOf, Keeps, Gathers, Memory, memory, Sound, Stands, Eats, Finishes}
 
 -- bytes laid behind the first n are what stands there, and then they
 take-over : (xs : List ℕ) (n : ℕ) (line : List ℕ) → n + length xs ≤ length line → take (n + length xs) (over xs n line) ≡ take n line ++ xs
@@ -80,6 +82,7 @@ module _ (xs : List ℕ) (n : ℕ) (line : List ℕ) (put : Put) (after : List �
         record {
           long = rw (f .left) (length-over xs n line room ∙ w);
           within = omega arith;
+          few = omega arith;
           keeps = λ kept k.
               let count = k .count in
               let sum = length-append kept xs in
@@ -96,6 +99,7 @@ module _ (xs : List ℕ) (n : ℕ) (line : List ℕ) (put : Put) (after : List �
         record {
           long = rw (u .left) w;
           within = omega arith;
+          few = omega arith;
           keeps = λ kept k.
               let count = k .count in
               let sum = length-append kept xs in
@@ -103,94 +107,67 @@ module _ (xs : List ℕ) (n : ℕ) (line : List ℕ) (put : Put) (after : List �
         }
 
 -- a line in its array does and prints what the line itself does: one over 400 is wrong either way
-does-nothing : (t : List ℕ) (k : Controller) → 400 < length t → servedOf t k ≡ k
+over-long : (t : List ℕ) (s : Station) → 400 < length t → servedOf t s ≡ didOf Wrong [] s
 unfolding servedOf didOf
-does-nothing t k h = rw (sym (long t h))
+over-long t s h = rw (sym (long (s .desk) t h))
 
-is-asked-back : (t : List ℕ) (k : Controller) → 400 < length t → replyOf t k ≡ questionMark
-unfolding replyOf textFor
-is-asked-back t k h = rw (sym (long t h))
-
-alike : {A : Type 0} (f : List ℕ → A) (wrong : A) → ((t : List ℕ) → 400 < length t → f t ≡ wrong) → (kept : List ℕ) (n : ℕ) (line : List ℕ) → length line ≡ 401 → Keeps kept n line → f (take n line) ≡ f kept
-alike f wrong over-long kept n line w s = go (leb (length kept) 400) refl
+alike : (s : Station) (kept : List ℕ) (n : ℕ) (line : List ℕ) → length line ≡ 401 → Keeps kept n line → servedOf (take n line) s ≡ servedOf kept s
+alike s kept n line w k = go (leb (length kept) 400) refl
   where
-    go : (x : Bool) → leb (length kept) 400 ≡ x → f (take n line) ≡ f kept
-    go true e = ap f (s .bytes (leb-true (length kept) 400 e))
+    go : (x : Bool) → leb (length kept) 400 ≡ x → servedOf (take n line) s ≡ servedOf kept s
+    go true e = ap (λ (t : List ℕ). servedOf t s) (k .bytes (leb-true (length kept) 400 e))
     go false e =
         let over-400 = leb-false (length kept) 400 e in
-        let count = s .count in
+        let count = k .count in
         let all = length-take-le n line (omega arith) in
-        over-long (take n line) (omega arith) ∙ sym (over-long kept over-400)
+        over-long (take n line) s (omega arith) ∙ sym (over-long kept s over-400)
 
 none-kept : (line : List ℕ) → Keeps [] 0 line
 none-kept line = record { count = refl; bytes = λ h. refl }
 
 -- the part of the line's array that is handed on
-module _ (k : Controller) (n : ℕ) (line : List ℕ) (m : ℕ) (out : List ℕ) (a : Sound (memory k n line m out)) where
+module _ (s : Station) (n : ℕ) (line : List ℕ) (m : ℕ) (out : List ℕ) (a : Sound (memory s n line m out)) where
   pub line-within : n ≤ length line
   line-within = let w : length line ≡ 401 = a .long in let h : n ≤ 401 = a .within in omega arith
 
   pub line-counted : n ≡ length (take n line)
   line-counted = front-counted n line line-within
 
--- what a line prints, in its array of 32 bytes, and then behind what was printed before
-module _ (wanted k : Controller) (text blank reply : List ℕ) (m : ℕ) (r : Replies wanted text blank k m reply) where
-  pub reply-within : m ≤ length reply
-  reply-within = r .prints .within
+  pub answer-fits : m + 80 * (n + 1) ≤ 196608 → m + 80 * (length (take n line) + 1) ≤ length out
+  answer-fits h = let size : length out ≡ 196608 = a .size in let c = line-counted in omega arith
 
-  pub reply-counted : m ≡ length (take m reply)
-  reply-counted = front-counted m reply reply-within
-
-  the-text : take m reply ≡ text
-  unfolding over
-  the-text = rw (r .prints .left, r .prints .count) (take-at text (drop (0 + length text) blank) (length text) refl)
-
-  module _ (w : length reply ≡ 32) (at : ℕ) (out : List ℕ) (size : length out ≡ 65536) (room : at ≤ 65504) where
-    pub print-fits : Fits w64 (at + m)
-    print-fits = omega (arith, reply-within)
-
-    pub print-short : at + m ≤ at + 32
-    print-short = omega (arith, reply-within)
-
-    laid-behind : (put : Put) (after : List ℕ) → Laid (take m reply) at out put after → after ≡ over (take m reply) at out
-    laid-behind put after l = laid l (omega (arith, reply-within, reply-counted)) .bytes
-
-    printed-behind : (put : Put) (after : List ℕ) → Laid (take m reply) at out put after → take (at + m) after ≡ take at out ++ text
-    printed-behind put after l =
-        let n = reply-counted in
-        let e : at + m ≡ at + length (take m reply) = omega arith in
-        rw (e, laid-behind put after l) (take-over (take m reply) at out (omega (arith, reply-within)) ∙ ap (λ (t : List ℕ). take at out ++ t) the-text)
-
-module _ (c : Controller) (line : List ℕ) (n : ℕ) (ended : Bool) (out : List ℕ) (at : ℕ) (a : Sound (memory c n line at out)) where
-  pub line-served : (k : Controller) (blank reply after : List ℕ) (m : ℕ) (put : Put) → at ≤ 65504 → ended ≡ true → Replies (servedOf (take n line) c) (replyOf (take n line) c) blank k m reply → length reply ≡ 32 → Laid (take m reply) at out put after → Eats (endedLine ended) (memory c n line at out) (memory k 0 line (at + m) after)
-  line-served k blank reply after m put room e r v l =
-      let wanted = servedOf (take n line) c in
-      let text = replyOf (take n line) c in
-      let short = reply-within wanted k text blank reply m r in
-      let counted = reply-counted wanted k text blank reply m r in
-      let size : length out ≡ 65536 = a .size in
+module _ (s : Station) (line : List ℕ) (n : ℕ) (ended : Bool) (out : List ℕ) (at : ℕ) (a : Sound (memory s n line at out)) where
+  pub line-served :
+      (r : Replied) (after : List ℕ) → at + 80 * (n + 1) ≤ 196608 → ended ≡ true → Replies (80 * (length (take n line) + 1)) (servedOf (take n line) s) at out r after →
+      Finishes ended (memory s n line at out) (memory (r .station) 0 line (r .end) after)
+  line-served r after h e q =
+      let size : length out ≡ 196608 = a .size in
+      let counted = line-counted s n line at out a in
+      let text = servedOf (take n line) s .text in
+      let ends = q .prints .ends in
+      let short = q .prints .short in
       record {
-        sound = record {
-          held = r .left .held;
-          long = a .long;
-          within = omega arith;
-          size = rw (laid-behind wanted k text blank reply m r v at out size room put after l) (length-over (take m reply) at out (omega arith) ∙ size);
-          filled = let f : at + m ≤ 65536 = omega arith in f;
+        room = let f : r .end + 80 * 0 ≤ at + 80 * (n + 1) = omega arith in f;
+        eats = record {
+          sound = record {
+            manned = q .again;
+            long = a .long;
+            within = omega arith;
+            size = q .prints .long ∙ size;
+            filled = let f : r .end ≤ 196608 = omega arith in f;
+          };
+          stands = λ p w. rw e (
+              let same : servedOf (take n line) s ≡ servedOf (p .kept) (p .station) = alike s (p .kept) n line (a .long) (w .keeps) ∙ ap (servedOf (p .kept)) (w .station) in
+              record {
+                station = q .is ∙ ap (λ (x : Served). x .station) same;
+                keeps = none-kept line;
+                printed = rw (ends, q .prints .left) (take-over text at out (omega arith)) ∙ ap (λ (t : List ℕ). t ++ text) (w .printed) ∙ ap (λ (x : Served). p .printed ++ x .text) same;
+              });
         };
-        stands = λ s h. rw e (record {
-          controller = r .left .is ∙ alike (λ (t : List ℕ). servedOf t c) c (λ t. does-nothing t c) (s .kept) n line (a .long) (h .keeps) ∙ ap (servedOf (s .kept)) (h .controller);
-          keeps = none-kept line;
-          printed = printed-behind wanted k text blank reply m r v at out size room put after l
-              ∙ ap (λ (t : List ℕ). t ++ text) (h .printed)
-              ∙ ap (λ (t : List ℕ). s .printed ++ t) (alike (λ (t : List ℕ). replyOf t c) questionMark (λ t. is-asked-back t c) (s .kept) n line (a .long) (h .keeps) ∙ ap (replyOf (s .kept)) (h .controller));
-        });
       }
 
-  pub line-goes-on : ended ≡ false → Eats (endedLine ended) (memory c n line at out) (memory c n line at out)
-  line-goes-on e = record { sound = a; stands = λ s q. rw e q }
-
-pub nothing-printed : (at : ℕ) → at ≤ at + 32
-nothing-printed at = omega arith
+  pub line-goes-on : ended ≡ false → Finishes ended (memory s n line at out) (memory s n line at out)
+  line-goes-on e = record { room = omega arith; eats = record { sound = a; stands = λ p q. rw e q } }
 
 -- a text is its first line, and then the next lines or nothing
 pub take-line : (t : List ℕ) → take (length (lineOf t)) t ≡ lineOf t
@@ -199,15 +176,15 @@ take-line [] = refl
 take-line (b ∷ t) = by (λ (l : List ℕ). take (length l) (b ∷ t) ≡ l) (eqb b 10) (λ e. refl) (λ e. ap (_∷_ b) (take-line t))
 
 -- what a text does after its first line, of the line, of whether it has ended, and of what follows
-abbrev after-line : List ℕ → Bool → List ℕ → Bench → Bench
+abbrev after-line : List ℕ → Bool → List ℕ → Program → Program
 after-line line ended more s = if ended then eatenOf more (endedLine true (longer line s)) else longer line s
 
 one-more-drop : (b n : ℕ) (t : List ℕ) → drop (n + 1) t ≡ drop (suc n + 1) (b ∷ t)
 one-more-drop b n t = let e : suc n + 1 ≡ suc (n + 1) = omega arith in rw e
 
-line-by-line : (t : List ℕ) (s : Bench) → eatenOf t s ≡ after-line (lineOf t) (ltb (length (lineOf t)) (length t)) (drop (length (lineOf t) + 1) t) s
+line-by-line : (t : List ℕ) (s : Program) → eatenOf t s ≡ after-line (lineOf t) (ltb (length (lineOf t)) (length t)) (drop (length (lineOf t) + 1) t) s
 unfolding eatenOf lineOf
-line-by-line [] s = ap (λ (l : List ℕ). bench (s .controller) l (s .printed)) (sym (append-nil (s .kept)))
+line-by-line [] s = ap (λ (l : List ℕ). program (s .station) l (s .printed)) (sym (append-nil (s .kept)))
 line-by-line (b ∷ t) s = go (eqb b 10) (line-by-line t (longer (b ∷ []) s))
   where
     go : (x : Bool) →
@@ -215,43 +192,38 @@ line-by-line (b ∷ t) s = go (eqb b 10) (line-by-line t (longer (b ∷ []) s))
         eatenOf t (if x then endedLine true s else longer (b ∷ []) s)
         ≡ (let l = if x then [] else b ∷ lineOf t in after-line l (ltb (length l) (length (b ∷ t))) (drop (length l + 1) (b ∷ t)) s)
     go true h =
-        ap (λ (l : List ℕ). eatenOf t (endedLine true (bench (s .controller) l (s .printed)))) (sym (append-nil (s .kept)))
+        ap (λ (l : List ℕ). eatenOf t (endedLine true (program (s .station) l (s .printed)))) (sym (append-nil (s .kept)))
         ∙ ap (λ (x : Bool). after-line [] x t s) (sym (lt-ltb 0 (length (b ∷ t)) (omega arith)))
     go false h =
         h
-        ∙ ap (λ (l : List ℕ). if ltb (length (lineOf t)) (length t) then eatenOf (drop (length (lineOf t) + 1) t) (endedLine true (bench (s .controller) l (s .printed))) else bench (s .controller) l (s .printed))
+        ∙ ap (λ (l : List ℕ). if ltb (length (lineOf t)) (length t) then eatenOf (drop (length (lineOf t) + 1) t) (endedLine true (program (s .station) l (s .printed))) else program (s .station) l (s .printed))
         (append-assoc (s .kept) (b ∷ []) (lineOf t))
         ∙ ap (λ (x : Bool). after-line (b ∷ lineOf t) x (drop (length (lineOf t) + 1) t) s) (by-order (length (lineOf t)) (length t) (length (b ∷ lineOf t)) (length (b ∷ t)) (λ k. omega arith) (λ k. omega arith))
         ∙ ap (λ (u : List ℕ). after-line (b ∷ lineOf t) (ltb (length (b ∷ lineOf t)) (length (b ∷ t))) u s) (one-more-drop b (length (lineOf t)) t)
 
 -- on the way through a chunk: the bench program that the memory stands for, and what is left of the chunk
-pub record Way (s : Bench) (chunk : List ℕ) (from : ℕ) (a : Memory) : Type 0 where
-  pub here : Bench
+pub record Way (s : Program) (chunk : List ℕ) (from : ℕ) (a : Memory) : Type 0 where
+  pub here : Program
   pub stands : Stands here a
   pub same : eatenOf (drop from chunk) here ≡ eatenOf chunk s
 
 pub record Eating (start : Memory) (chunk : List ℕ) (from : ℕ) (a : Memory) : Type 0 where
   pub sound : Sound a
-  pub room : a .m ≤ 32 * from
-  pub way : (s : Bench) → Stands s start → Way s chunk from a
+  pub room : a .m + 80 * a .n ≤ 80 * (start .n + from)
+  pub way : (s : Program) → Stands s start → Way s chunk from a
 
-drop-more : (a b : ℕ) (t : List ℕ) → drop b (drop a t) ≡ drop (a + b) t
-drop-more zero b t = let e : 0 + b ≡ b = omega arith in rw e
-drop-more (suc a) b [] = drop-nil b ∙ sym (drop-nil (suc a + b))
-drop-more (suc a) b (x ∷ t) = let e : suc a + b ≡ suc (a + b) = omega arith in rw e (drop-more a b t)
-
-module _ (start : Controller) (kept : ℕ) (before blank chunk : List ℕ) where
+module _ (start : Station) (kept : ℕ) (before blank chunk : List ℕ) where
   pub begins : Sound (memory start kept before 0 blank) → Eating (memory start kept before 0 blank) chunk 0 (memory start kept before 0 blank)
   begins a = record { sound = a; room = omega arith; way = λ s q. record { here = s; stands = q; same = refl } }
 
-  module _ (from : ℕ) (c : Controller) (n : ℕ) (line : List ℕ) (at : ℕ) (out : List ℕ) (r : Eating (memory start kept before 0 blank) chunk from (memory c n line at out)) where
+  module _ (from : ℕ) (c : Station) (n : ℕ) (line : List ℕ) (at : ℕ) (out : List ℕ) (r : Eating (memory start kept before 0 blank) chunk from (memory c n line at out)) where
     pub chunk-over : length chunk ≤ from → Eats (eatenOf chunk) (memory start kept before 0 blank) (memory c n line at out)
     unfolding eatenOf
     chunk-over h = record {
       sound = r .sound;
       stands = λ s q.
           let w = r .way s q in
-          subst (λ (x : Bench). Stands x (memory c n line at out)) (rw (drop-of-length-le chunk h) at (w .same)) (w .stands);
+          subst (λ (x : Program). Stands x (memory c n line at out)) (rw (drop-of-length-le chunk h) at (w .same)) (w .stands);
     }
 
     -- a line begins, and has room for what it prints
@@ -261,11 +233,8 @@ module _ (start : Controller) (kept : ℕ) (before blank chunk : List ℕ) where
     pub kept-within : n ≤ 401
     kept-within = r .sound .within
 
-    pub line-room : from < length chunk → length chunk ≤ 2048 → at ≤ 65504
-    line-room h m = let u = r .room in omega arith
-
     pub still-sound : (more : List ℕ) (m : ℕ) (gathered : List ℕ) → Gathers more n line m gathered → Sound (memory c m gathered at out)
-    still-sound more m gathered g = record { held = r .sound .held; long = g .long; within = g .within; size = r .sound .size; filled = r .sound .filled }
+    still-sound more m gathered g = record { manned = r .sound .manned; long = g .long; within = g .within; size = r .sound .size; filled = r .sound .filled }
 
     -- the line at this place of the chunk, and behind its end
     module _ (h : from < length chunk) (end : ℕ) (e : LineEnd chunk from end) where
@@ -282,26 +251,42 @@ module _ (start : Controller) (kept : ℕ) (before blank chunk : List ℕ) where
           by-order end (length chunk) (length (lineOf rest)) (length rest) (λ k. omega arith) (λ k. omega arith)
 
       behind : drop (length (lineOf rest) + 1) rest ≡ drop (end + 1) chunk
-      behind = let q = e .place in let n : from + (length (lineOf rest) + 1) ≡ end + 1 = omega arith in drop-more from (length (lineOf rest) + 1) chunk ∙ rw n
+      behind = let q = e .place in let n : from + (length (lineOf rest) + 1) ≡ end + 1 = omega arith in drop-drop (length (lineOf rest) + 1) from chunk ∙ rw n
 
-      past-line : (here : Bench) (x : Bool) → ltb end (length chunk) ≡ x → eatenOf (drop (end + 1) chunk) (endedLine x (longer (lineOf rest) here)) ≡ after-line (lineOf rest) x (drop (length (lineOf rest) + 1) rest) here
+      past-line : (here : Program) (x : Bool) → ltb end (length chunk) ≡ x → eatenOf (drop (end + 1) chunk) (endedLine x (longer (lineOf rest) here)) ≡ after-line (lineOf rest) x (drop (length (lineOf rest) + 1) rest) here
       unfolding eatenOf
       past-line here true q = rw behind
       past-line here false q = let over = ltb-false end (length chunk) q in rw (drop-of-length-le chunk {i = end + 1} (omega arith))
 
-      pub again : (m : ℕ) (gathered : List ℕ) (b : Bool) (k : Controller) (j p : ℕ) (after : List ℕ) →
-          Gathers (take (end - from) (drop from chunk)) n line m gathered → b ≡ ltb end (length chunk) → Eats (endedLine b) (memory c m gathered at out) (memory k j gathered p after) → p ≤ at + 32 →
+      pub line-room : (m : ℕ) (gathered : List ℕ) → kept ≤ 401 → length chunk ≤ 2048 → Gathers (take (end - from) (drop from chunk)) n line m gathered → at + 80 * (m + 1) ≤ 196608
+      line-room m gathered k l g =
+          let u : at + 80 * n ≤ 80 * (kept + from) = r .room in
+          let few = g .few in
+          let part = length-take (end - from) (drop from chunk) in
+          let b = e .behind in
+          let i = e .inside in
+          omega arith
+
+      pub again : (m : ℕ) (gathered : List ℕ) (b : Bool) (k : Station) (j p : ℕ) (after : List ℕ) →
+          Gathers (take (end - from) (drop from chunk)) n line m gathered → b ≡ ltb end (length chunk) → Finishes b (memory c m gathered at out) (memory k j gathered p after) →
           Eating (memory start kept before 0 blank) chunk (end + 1) (memory k j gathered p after)
-      again m gathered b k j p after g q f short = record {
-        sound = f .sound;
-        room = let x = r .room in let y = e .behind in omega arith;
+      again m gathered b k j p after g q f = record {
+        sound = f .eats .sound;
+        room =
+            let u : at + 80 * n ≤ 80 * (kept + from) = r .room in
+            let v : p + 80 * j ≤ at + 80 * (m + 1) = f .room in
+            let few = g .few in
+            let part = length-take (end - from) (drop from chunk) in
+            let y = e .behind in
+            let w : p + 80 * j ≤ 80 * (kept + (end + 1)) = omega arith in
+            w;
         way = λ s h.
             let w = r .way s h in
             let whole : Stands (longer (lineOf rest) (w .here)) (memory c m gathered at out)
-            = record { controller = w .stands .controller; keeps = rw the-line at (g .keeps (w .here .kept) (w .stands .keeps)); printed = w .stands .printed } in
+            = record { station = w .stands .station; keeps = rw the-line at (g .keeps (w .here .kept) (w .stands .keeps)); printed = w .stands .printed } in
             record {
               here = endedLine b (longer (lineOf rest) (w .here));
-              stands = f .stands (longer (lineOf rest) (w .here)) whole;
+              stands = f .eats .stands (longer (lineOf rest) (w .here)) whole;
               same = past-line (w .here) b (sym q) ∙ sym (rw (← has-ended, ← q) at (line-by-line rest (w .here))) ∙ w .same;
             };
       }

@@ -1,5 +1,5 @@
--- 01, "The bench program": "It reads lines, ended by LF or the input's end". What the bytes of the input do and print, how the program keeps them, and what it comes to.
-use Prim.Native.Nat.{ℕ, _≤_, min}
+-- 01, "The bench program": "It reads lines, ended by LF or the input's end"; the rig too. What the bytes of the input do and print, how the program keeps them, and what it comes to.
+use Prim.Native.Nat.{ℕ, _+_, _*_, _≤_, min}
 use mathlib.Core.Path.{_≡_}
 use mathlib.Core.Bool.{Bool, true, not, _||_}
 use mathlib.Core.List.{List, [], _∷_, _++_}
@@ -8,47 +8,44 @@ use lib.IntN.{ℤ}
 use lib.ListN.{length, take}
 use Rattle.io.specs.Counts.{clamped}
 use Rattle.basics.specs.Choice.{if_then_else_}
-use Rattle.pipettor.specs.declared.Controller.{Controller}
-use Rattle.pipettor.specs.declared.address.Address.the-variants.{One}
-use Rattle.pipettor.specs.Controller.{madeOf}
-use Rattle.pipettor.specs.Held.{Held}
+use Rattle.desk.specs.declared.Desk.{Desk}
+use Rattle.station.specs.declared.Station.{Station}
+use Rattle.station.specs.Serve.{atStart, servedOf, Manned}
 use Rattle.console.specs.declared.End.{End}
-use Rattle.console.specs.Serve.{servedOf}
-use Rattle.console.specs.Print.{replyOf}
 
--- the bench program between two bytes: its controller, the bytes since the last LF, and what it has printed
-pub record Bench : Type 0 where
-  pub controller : Controller
+-- the program between two bytes: its station, the bytes since the last LF, and what it has printed
+pub record Program : Type 0 where
+  pub station : Station
   pub kept : List ℕ
   pub printed : List ℕ
 
-abbrev pub bench : Controller → List ℕ → List ℕ → Bench
-bench k kept printed = record { controller = k; kept = kept; printed = printed }
+abbrev pub program : Station → List ℕ → List ℕ → Program
+program s kept printed = record { station = s; kept = kept; printed = printed }
 
 -- more bytes of a line
-abbrev pub longer : List ℕ → Bench → Bench
-longer more s = bench (s .controller) (s .kept ++ more) (s .printed)
+abbrev pub longer : List ℕ → Program → Program
+longer more p = program (p .station) (p .kept ++ more) (p .printed)
 
 -- what is kept is a line, if it has ended
-abbrev pub endedLine : Bool → Bench → Bench
-endedLine ended s = if ended then bench (servedOf (s .kept) (s .controller)) [] (s .printed ++ replyOf (s .kept) (s .controller)) else s
+abbrev pub endedLine : Bool → Program → Program
+endedLine ended p = if ended then (let line = servedOf (p .kept) (p .station) in program (line .station) [] (p .printed ++ line .text)) else p
 
 -- a line is served as soon as it is complete
-unfoldable pub eatenOf : List ℕ → Bench → Bench
-eatenOf [] s = s
-eatenOf (b ∷ t) s = eatenOf t (if eqb b 10 then endedLine true s else longer (b ∷ []) s)
+unfoldable pub eatenOf : List ℕ → Program → Program
+eatenOf [] p = p
+eatenOf (b ∷ t) p = eatenOf t (if eqb b 10 then endedLine true p else longer (b ∷ []) p)
 
 -- "or the input's end (nothing after the last LF is no line)"
-abbrev pub lastOf : Bench → Bench
-lastOf s = endedLine (ltb 0 (length (s .kept))) s
+abbrev pub lastOf : Program → Program
+lastOf p = endedLine (ltb 0 (length (p .kept))) p
 
 -- "Address 1."
-abbrev pub atStart : Bench
-atStart = bench (madeOf One .next) [] []
+abbrev pub opened : Desk → Program
+opened desk = program (atStart desk) [] []
 
 -- the program after this input, which may be over
-unfoldable pub programOf : Bool → List ℕ → Bench
-programOf over input = let s = eatenOf input atStart in if over then lastOf s else s
+unfoldable pub programOf : Desk → Bool → List ℕ → Program
+programOf desk over input = let p = eatenOf input (opened desk) in if over then lastOf p else p
 
 -- what a read brought, by its answer and what then stands in the array; nothing is the input's end
 unfoldable pub brought : ℤ → List ℕ → List ℕ
@@ -57,8 +54,8 @@ brought got chunk = take (clamped got (length chunk)) chunk
 abbrev pub nothing : List ℕ → Bool
 nothing bytes = eqb (length bytes) 0
 
-unfoldable pub readOf : List ℕ → Bench → Bench
-readOf bytes s = if nothing bytes then lastOf s else eatenOf bytes s
+unfoldable pub readOf : List ℕ → Program → Program
+readOf bytes p = if nothing bytes then lastOf p else eatenOf bytes p
 
 -- a line in its array: so many bytes of it; of one over 400 only that it is
 pub record Keeps (kept : List ℕ) (n : ℕ) (line : List ℕ) : Type 0 where
@@ -69,37 +66,43 @@ pub record Keeps (kept : List ℕ) (n : ℕ) (line : List ℕ) : Type 0 where
 pub record Gathers (more : List ℕ) (n : ℕ) (before : List ℕ) (r : ℕ) (after : List ℕ) : Type 0 where
   pub long : length after ≡ 401
   pub within : r ≤ 401
+  pub few : r ≤ n + length more
   pub keeps : (kept : List ℕ) → Keeps kept n before → Keeps (kept ++ more) r after
 
--- the program's memory: a controller, an array that begins with n bytes of a line, and one that begins with m bytes to be written
+-- the program's memory: a station, an array that begins with n bytes of a line, and one that begins with m bytes to be written
 pub record Memory : Type 0 where
-  pub controller : Controller
+  pub station : Station
   pub n : ℕ
   pub line : List ℕ
   pub m : ℕ
   pub out : List ℕ
 
-abbrev pub memory : Controller → ℕ → List ℕ → ℕ → List ℕ → Memory
-memory k n line m out = record { controller = k; n = n; line = line; m = m; out = out }
+abbrev pub memory : Station → ℕ → List ℕ → ℕ → List ℕ → Memory
+memory s n line m out = record { station = s; n = n; line = line; m = m; out = out }
 
 -- one that the program can come to
 pub record Sound (a : Memory) : Type 0 where
-  pub held : Held (a .controller)
+  pub manned : Manned (a .station)
   pub long : length (a .line) ≡ 401
   pub within : a .n ≤ 401
-  pub size : length (a .out) ≡ 65536
-  pub filled : a .m ≤ 65536
+  pub size : length (a .out) ≡ 196608
+  pub filled : a .m ≤ 196608
 
--- one that stands for the bench program
-pub record Stands (s : Bench) (a : Memory) : Type 0 where
-  pub controller : a .controller ≡ s .controller
-  pub keeps : Keeps (s .kept) (a .n) (a .line)
-  pub printed : take (a .m) (a .out) ≡ s .printed
+-- one that stands for the program
+pub record Stands (p : Program) (a : Memory) : Type 0 where
+  pub station : a .station ≡ p .station
+  pub keeps : Keeps (p .kept) (a .n) (a .line)
+  pub printed : take (a .m) (a .out) ≡ p .printed
 
 -- the memory after bytes of the input, or after a line's end
-pub record Eats (next : Bench → Bench) (a b : Memory) : Type 0 where
+pub record Eats (next : Program → Program) (a b : Memory) : Type 0 where
   pub sound : Sound b
-  pub stands : (s : Bench) → Stands s a → Stands (next s) b
+  pub stands : (p : Program) → Stands p a → Stands (next p) b
+
+-- a line's end, and the room that it takes: 80 bytes for each of the line and its LF, at most
+pub record Finishes (ended : Bool) (a b : Memory) : Type 0 where
+  pub eats : Eats (endedLine ended) a b
+  pub room : b .m + 80 * b .n ≤ a .m + 80 * (a .n + 1)
 
 -- after a read, and whether the input is over
 pub record Reads (bytes : List ℕ) (a b : Memory) (over : Bool) : Type 0 where
@@ -116,8 +119,8 @@ abbrev pub ends : Bool → Bool → Bool
 ends over wrote = over || not wrote
 
 -- the program has ended, for that reason or after 2^64 - 1 reads, each of which brought a byte at least
-pub record Ended (r : End) : Type 0 where
+pub record Ended (desk : Desk) (r : End) : Type 0 where
   pub input : List ℕ
-  pub controller : r .controller ≡ programOf (r .over) input .controller
+  pub station : r .station ≡ programOf desk (r .over) input .station
   pub reads : r .reads ≤ length input
   pub reason : (ends (r .over) (r .wrote) || leb 18446744073709551615 (r .reads)) ≡ true

@@ -1,4 +1,1 @@
-pub mod Forms
-pub mod Serve
-pub mod Print
 pub mod Eaten

@@ -9,6 +9,7 @@ use lib.Dec.{ltb}
 use lib.ListN.{length, drop}
 use lib.Seq.{drop-at}
 use Rattle.basics.specs.Lay.{over}
+use Rattle.basics.specs.Exactly.{Exactly}
 use Rattle.basics.proofs.Choice.{by}
 use Rattle.basics.proofs.Over.{length-over}
 use Rattle.line.specs.Answer.{statusOf, answerOf}
@@ -20,7 +21,6 @@ use Rattle.machine.specs.Device.{tickOf, haltedOf, advanceOf, ranOf}
 use Rattle.machine.specs.declared.Used.{Used}
 use Rattle.machine.specs.declared.Used.the-variants.{Ticks, S3}
 use Rattle.machine.specs.History.{IsSum}
-use Rattle.machine.specs.Refusals.{Exactly}
 use Rattle.machine.proofs.Runs.{count-within, not-ready-before, ready-after}
 use Rattle.machine.proofs.Position.{at-rest}
 use Rattle.machine.proofs.Failures.{a-run-meets-a-command, a-run-fails-by-7-or-3-only, a-command-that-must-fail-fails}

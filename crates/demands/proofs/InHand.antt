@@ -10,6 +10,7 @@ use lib.ListN.{length, take, drop, set, length-append}
 use lib.Seq.{sets-eq, take-at, take-all, take-append-le}
 use Rattle.basics.specs.Choice.{if_then_else_}
 use Rattle.basics.specs.Bytes.{every}
+use Rattle.basics.specs.Exactly.{Exactly}
 use Rattle.basics.proofs.Choice.{by}
 use Rattle.basics.proofs.Digits.{and-both, every-append}
 use Rattle.line.specs.declared.Line.{Line}
@@ -19,7 +20,6 @@ use Rattle.line.specs.declared.Heard.{Heard}
 use Rattle.line.specs.Wire.{slash, cr, printable, waits, endOf, takeOf, hearOf, keepOf, Received, hears, feed, dataByte}
 use Rattle.line.proofs.Receiving.{less, no-cr, feed-long}
 use Rattle.motion.specs.Events.{Turn}
-use Rattle.machine.specs.Refusals.{Exactly}
 use Rattle.pipettor.specs.declared.address.Address.{Address}
 use Rattle.pipettor.specs.declared.Controller.{Controller}
 use Rattle.pipettor.specs.Address.{letterOf}

@@ -13,3 +13,4 @@ pub mod Volumes
 pub mod Tight
 pub mod Records
 pub mod Parts
+pub mod OneLine

@@ -25,6 +25,8 @@ use Rattle.reports.proofs as reports
 use Rattle.machine.proofs as machine
 use Rattle.pipettor.proofs as pipettor
 use Rattle.desk.proofs as desk
+use Rattle.printing.proofs as printing
+use Rattle.station.proofs as station
 use Rattle.demands.specs.Tight.{Same, Tight}
 
 -- a result that a contract gives by an equation, where nothing is lent to be changed
@@ -326,6 +328,18 @@ pipettor-Controller-stop κs args z z′ ws ws′ p q = result (p .is) (q .is)
 pub desk-read : Tight desk.read.Kinds.ps desk.read.Kinds.r desk.read.Reads.Learnt
 desk-read κs args z z′ ws ws′ p q = result p q
 
+pub desk-hex-paired : Tight desk.hex.paired.Kinds.ps desk.hex.paired.Kinds.r desk.hex.paired.Reads.Learnt
+desk-hex-paired κs args z z′ ws ws′ p q = result p q
+
+pub desk-hex-byte : Tight desk.hex.byte.Kinds.ps desk.hex.byte.Kinds.r desk.hex.byte.Reads.Learnt
+desk-hex-byte κs args z z′ ws ws′ p q = result p q
+
+pub desk-hex-high : Tight desk.hex.high.Kinds.ps desk.hex.high.Kinds.r desk.hex.high.Reads.Learnt
+desk-hex-high κs args z z′ ws ws′ p q = result p q
+
+pub desk-hex-low : Tight desk.hex.low.Kinds.ps desk.hex.low.Kinds.r desk.hex.low.Reads.Learnt
+desk-hex-low κs args z z′ ws ws′ p q = result p q
+
 pub desk-line-end : Tight desk.line_end.Kinds.ps desk.line_end.Kinds.r desk.line_end.Reads.Learnt
 desk-line-end κs args z z′ ws ws′ p q = result (p .place) (q .place)
 
@@ -335,3 +349,32 @@ pub desk-printed :
     desk.printed.Reads.Learnt κs args z (atExit (endedOf 1 desk.printed.Kinds.ps desk.printed.Kinds.r) κs args ws) →
     desk.printed.Reads.Learnt κs args z′ (atExit (endedOf 1 desk.printed.Kinds.ps desk.printed.Kinds.r) κs args ws) → now z ≡ now z′
 desk-printed κs args z z′ ws p q = p ∙ sym q
+
+-- printing
+pub printing-line : Tight printing.line.Kinds.ps printing.line.Kinds.r printing.line.Reads.Learnt
+printing-line κs args z z′ ws ws′ p q = lent (λ y. (tt, (y, (tt, tt)))) (p .ends) (q .ends) (p .left) (q .left)
+
+pub printing-place : Tight printing.place.Kinds.ps printing.place.Kinds.r printing.place.Reads.Learnt
+printing-place κs args z z′ ws ws′ p q = lent (λ y. (tt, (tt, (y, (tt, tt))))) (p .ends) (q .ends) (p .left) (q .left)
+
+pub printing-used : Tight printing.used.Kinds.ps printing.used.Kinds.r printing.used.Reads.Learnt
+printing-used κs args z z′ ws ws′ p q = lent (λ y. (tt, (tt, (tt, (y, (tt, tt)))))) (p .ends) (q .ends) (p .left) (q .left)
+
+pub printing-show : Tight printing.show.Kinds.ps printing.show.Kinds.r printing.show.Reads.Learnt
+printing-show κs args z z′ ws ws′ p q = lent (λ y. (tt, (tt, (y, (tt, tt))))) (p .ends) (q .ends) (p .left) (q .left)
+
+pub printing-raw : Tight printing.raw.Kinds.ps printing.raw.Kinds.r printing.raw.Reads.Learnt
+printing-raw κs args z z′ ws ws′ p q = lent (λ y. (tt, (tt, (tt, (y, (tt, tt)))))) (p .ends) (q .ends) (p .left) (q .left)
+
+pub printing-close : Tight printing.close.Kinds.ps printing.close.Kinds.r printing.close.Reads.Learnt
+printing-close κs args z z′ ws ws′ p q = lent (λ y. (tt, (y, (tt, tt)))) (p .ends) (q .ends) (p .left) (q .left)
+
+-- station
+pub station-Station-new : Tight station.Station.new.Kinds.ps station.Station.new.Kinds.r station.Station.new.Reads.Learnt
+station-Station-new κs args z z′ ws ws′ p q = result (p .is) (q .is)
+
+pub station-Station-answer : Tight station.Station.answer.Kinds.ps station.Station.answer.Kinds.r station.Station.answer.Reads.Learnt
+station-Station-answer κs args z z′ ws ws′ p q = record {
+  result-is = λ i. record { station = (p .is ∙ sym (q .is)) i; end = (p .prints .ends ∙ sym (q .prints .ends)) i };
+  left-is = ap (λ (y : List ℕ). (tt, (tt, (y, (tt, tt))))) (p .prints .left ∙ sym (q .prints .left));
+}

@@ -6,6 +6,7 @@ use mathlib.Core.Bool.{true, false}
 use mathlib.Core.List.{List, [], _∷_, _++_}
 use lib.ListN.{length, take, drop}
 use Rattle.basics.specs.Bytes.{every}
+use Rattle.basics.specs.Exactly.{Exactly}
 use Rattle.settings.specs.declared.Volume.{Volume}
 use Rattle.command.specs.declared.refusal.Refusal.{Refusal}
 use Rattle.command.specs.declared.refusal.Verdict.the-variants.{Fine, Refused}
@@ -24,7 +25,6 @@ use Rattle.machine.specs.declared.Device.{Device}
 use Rattle.machine.specs.declared.Used.the-variants.{Ticks}
 use Rattle.machine.specs.Step.{core}
 use Rattle.machine.specs.Device.{device}
-use Rattle.machine.specs.Refusals.{Exactly}
 use Rattle.machine.specs.History.{sumOf, IsSum, StandsBy, moving}
 use Rattle.machine.specs.OnCourse as OnCourse
 use Rattle.machine.specs.OnCourse.{Failing, Fault}

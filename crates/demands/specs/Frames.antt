@@ -5,11 +5,11 @@ use mathlib.Core.Bool.{true, false}
 use mathlib.Core.List.{List, [], _∷_, _++_}
 use lib.ListN.{length, replicate}
 use Rattle.basics.specs.Bytes.{every}
+use Rattle.basics.specs.Exactly.{Exactly}
 use Rattle.text.specs.Data.{receivedOf}
 use Rattle.line.specs.Wire.{dataByte, framed, framesOf}
 use Rattle.motion.specs.Events.{Turn}
 use Rattle.machine.specs.declared.Device.{Device}
-use Rattle.machine.specs.Refusals.{Exactly}
 use Rattle.pipettor.specs.declared.address.Address.{Address}
 use Rattle.pipettor.specs.declared.Controller.{Controller}
 use Rattle.pipettor.specs.declared.Said.{Said}

@@ -8,9 +8,9 @@ use lib.Dec.{ltb, eqb}
 use lib.ListN.{length}
 use Rattle.basics.specs.Choice.{if_then_else_}
 use Rattle.basics.specs.Bytes.{every}
+use Rattle.basics.specs.Exactly.{Exactly}
 use Rattle.line.specs.Wire.{slash, cr, printable, dataByte}
 use Rattle.motion.specs.Events.{Turn, quiet}
-use Rattle.machine.specs.Refusals.{Exactly}
 use Rattle.pipettor.specs.declared.address.Address.{Address}
 use Rattle.pipettor.specs.declared.Controller.{Controller}
 use Rattle.pipettor.specs.declared.Said.the-variants.{Silent}

@@ -1,12 +1,12 @@
 -- Scripts, as one would type them at the bench: frames with what they answer, ticks with where the plunger then is, runs with their count. Who plays them is the definition, or a program.
 use Prim.Native.Nat.{ℕ, _-_}
-use Prim.Native.String.{String, [] as end, _∷_ as _before_}
-use Prim.Native.Char.{code}
+use Prim.Native.String.{String}
 use mathlib.Core.Bool.{Bool, true, false, _&&_}
 use mathlib.Core.List.{List, [], _∷_, _++_, map}
 use lib.Dec.{eqb}
 use lib.ListN.{take, drop, replicate}
 use Rattle.basics.specs.Choice.{if_then_else_}
+use Rattle.basics.specs.Bytes.{chars}
 use Rattle.line.specs.Wire.{framed}
 use Rattle.machine.specs.declared.Used.the-variants.{Ticks, S3}
 use Rattle.pipettor.specs.declared.address.Address.the-variants.{One}
@@ -25,13 +25,9 @@ pub data Line : Type 0 where
   _ticks_exact_ : ℕ → ℕ → ℕ → Line
   _run-uses_ : ℕ → ℕ → Line
 
-abbrev pub bytes : String → List ℕ
-bytes end = []
-bytes (c before s) = code c ∷ bytes s
-
 -- its calls: byte after byte, each with a buffer of 32 bytes lent; ticks; a run
 abbrev pub callsOf : Line → List Call
-callsOf (text answers reply) = map (λ (b : ℕ). byte b (lent (replicate 32 0))) (framed 49 (bytes text))
+callsOf (text answers reply) = map (λ (b : ℕ). byte b (lent (replicate 32 0))) (framed 49 (chars text))
 callsOf (n ticks place exact millionths) = advance n ∷ []
 callsOf (n run-uses count) = run n ∷ []
 
@@ -72,7 +68,7 @@ seen player calls (n ticks place exact millionths) = let b = player .left (calls
 seen player calls (n run-uses count) = lastOf (player .back (calls ++ run n ∷ []))
 
 abbrev pub expected : Line → List ℕ
-expected (text answers reply) = bytes reply
+expected (text answers reply) = chars reply
 expected (n ticks place exact millionths) = place ∷ millionths ∷ []
 expected (n run-uses count) = count ∷ []
 

@@ -1,1 +1,5 @@
 pub mod Lines
+pub mod Pairs
+pub mod Words
+pub mod Written
+pub mod Forms

@@ -1,39 +1,99 @@
--- 01, "The bench program": what a line asks, and what is printed of an answer.
-use Prim.Native.Nat.{ℕ, _+_, _-_, _/_, _≤_}
+-- What a line asks: 01, "The bench program", and the training rig, which takes those lines and more. What is printed of an answer, and where a line ends.
+use Prim.Native.Nat.{ℕ, _+_, _-_, _≤_}
 use mathlib.Core.Path.{_≡_}
-use mathlib.Core.Bool.{Bool, _&&_}
+use mathlib.Core.Bool.{Bool, true, false, _&&_}
 use mathlib.Core.List.{List, [], _∷_}
-use lib.Dec.{ltb, leb, eqb}
+use lib.Dec.{leb, eqb}
 use lib.ListN.{length, take, drop}
 use Rattle.basics.specs.Choice.{if_then_else_}
-use Rattle.basics.specs.Bytes.{zeroDigit, every}
+use Rattle.basics.specs.Bytes.{chars, every}
 use Rattle.line.specs.Wire.{printable}
-use Rattle.operand.specs.declared.Number.{Number}
-use Rattle.operand.specs.declared.Number.the-variants as N
-use Rattle.operand.specs.Number.{numberOf}
+use Rattle.desk.specs.declared.Desk.{Desk}
+use Rattle.desk.specs.declared.Desk.the-variants.{Bench, Rig}
+use Rattle.desk.specs.declared.Quantity.{Quantity}
+use Rattle.desk.specs.declared.Quantity.the-variants.{Ticks, Run, Lend, New}
+use Rattle.desk.specs.declared.Word.{Word}
+use Rattle.desk.specs.declared.Word.the-variants as W
 use Rattle.desk.specs.declared.Asked.{Asked}
-use Rattle.desk.specs.declared.Asked.the-variants.{Send, Ticks, Wrong}
+use Rattle.desk.specs.declared.Asked.the-variants.{Send, Number, Stop, Raw, Wrong}
+use Rattle.desk.specs.declared.Count.{Count}
+use Rattle.desk.specs.declared.Count.the-variants.{Is, Not}
+use Rattle.desk.specs.Counts.{countOf}
+use Rattle.desk.specs.Hex.{paired}
 
--- "`t n` (1 to 60000, no leading zero)": a whole number, in thousandths, of no decimals
-unfoldable pub countedOf : Number → Asked
-countedOf N.Absent = Wrong
-countedOf (N.Is n decimals) = if eqb decimals 0 && leb (n / 1000) 60000 then Ticks (n / 1000) else Wrong
-countedOf (N.Wrong read) = Wrong
+-- how a line begins
+abbrev pub spelled : Word → List ℕ
+spelled W.Frame = chars "> "
+spelled (W.Number Ticks) = chars "t "
+spelled (W.Number Run) = chars "run "
+spelled (W.Number Lend) = chars "lend "
+spelled (W.Number New) = chars "new "
+spelled W.Stop = chars "stop"
+spelled W.Raw = chars "x "
+spelled W.Other = []
 
-unfoldable pub ticksOf : List ℕ → Asked
-ticksOf [] = Wrong
-ticksOf (d ∷ ds) = if eqb d zeroDigit then Wrong else countedOf (numberOf (d ∷ ds))
+unfoldable pub begins : List ℕ → List ℕ → Bool
+begins [] t = true
+begins (a ∷ w) [] = false
+begins (a ∷ w) (b ∷ t) = eqb a b && begins w t
 
--- "`> ` and text"; "of other form prints `?`"
-unfoldable pub formOf : List ℕ → Asked
-formOf [] = Wrong
-formOf (a ∷ []) = Wrong
-formOf (a ∷ b ∷ t) =
-    if eqb b 32 then (if eqb a 62 then Send else if eqb a 116 then ticksOf t else Wrong) else Wrong
+unfoldable pub wordOf : List ℕ → Word
+wordOf t =
+    if begins (spelled W.Frame) t then W.Frame
+    else if begins (spelled (W.Number Ticks)) t then W.Number Ticks
+    else if begins (spelled (W.Number Run)) t then W.Number Run
+    else if begins (spelled (W.Number Lend)) t then W.Number Lend
+    else if begins (spelled (W.Number New)) t then W.Number New
+    else if begins (spelled W.Stop) t then W.Stop
+    else if begins (spelled W.Raw) t then W.Raw
+    else W.Other
+
+-- the bench program has two forms of lines: "`> ` and text", "`t n`"
+abbrev pub knows : Desk → Word → Bool
+knows Bench W.Frame = true
+knows Bench (W.Number Ticks) = true
+knows Bench (W.Number Run) = false
+knows Bench (W.Number Lend) = false
+knows Bench (W.Number New) = false
+knows Bench W.Stop = false
+knows Bench W.Raw = false
+knows Bench W.Other = false
+knows Rig w = true
+
+-- "1 to 60000"; "0 to 64"; any other number has at most 6 digits
+abbrev pub leastOf : Quantity → ℕ
+leastOf Ticks = 1
+leastOf Run = 0
+leastOf Lend = 0
+leastOf New = 0
+
+abbrev pub mostOf : Quantity → ℕ
+mostOf Ticks = 60000
+mostOf Run = 999999
+mostOf Lend = 64
+mostOf New = 999999
+
+unfoldable pub allowed : Quantity → ℕ → Bool
+allowed q n = leb (leastOf q) n && leb n (mostOf q)
+
+unfoldable pub ranged : Quantity → Count → Asked
+ranged q (Is n) = if allowed q n then Number q n else Wrong
+ranged q Not = Wrong
+
+-- by what stands behind the word: a text, a number, nothing, bytes
+unfoldable pub behind : Word → List ℕ → Asked
+behind W.Frame t = Send
+behind (W.Number q) t = ranged q (countOf t)
+behind W.Stop t = if eqb (length t) 0 then Stop else Wrong
+behind W.Raw t = if paired t then Raw else Wrong
+behind W.Other t = Wrong
+
+unfoldable pub formOf : Desk → List ℕ → Asked
+formOf desk t = let w = wordOf t in if knows desk w then behind w (drop (length (spelled w)) t) else Wrong
 
 -- "A line over 400 bytes, with a byte outside 20h to 7Eh, or of other form prints `?`."
-unfoldable pub askedOf : List ℕ → Asked
-askedOf t = if leb (length t) 400 && every printable t then formOf t else Wrong
+unfoldable pub askedOf : Desk → List ℕ → Asked
+askedOf desk t = if leb (length t) 400 && every printable t then formOf desk t else Wrong
 
 -- "It prints, for a frame, status and data": an answer of n bytes without its first two and its last three
 unfoldable pub printedOf : ℕ → List ℕ → List ℕ

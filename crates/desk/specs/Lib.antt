@@ -1,1 +1,4 @@
+pub mod Counts
+pub mod Hex
 pub mod Desk
+pub mod Forms

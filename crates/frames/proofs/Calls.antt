@@ -9,12 +9,12 @@ use borrow.Author.Tests.{ltb-true, ltb-false, lt-ltb, eqb-false, ne-eqb}
 use lib.Dec.{ltb, eqb}
 use lib.ListN.{length}
 use Rattle.basics.specs.Choice.{if_then_else_}
+use Rattle.basics.specs.Exactly.{Exactly}
 use Rattle.basics.proofs.Choice.{by}
 use Rattle.motion.specs.Events.{Turn, quiet}
 use Rattle.machine.specs.declared.Used.the-variants.{S3}
 use Rattle.machine.specs.declared.Ran as Machine
 use Rattle.machine.specs.Device.{ranOf}
-use Rattle.machine.specs.Refusals.{Exactly}
 use Rattle.pipettor.specs.declared.address.Address.{Address}
 use Rattle.pipettor.specs.declared.address.Given.{Given}
 use Rattle.pipettor.specs.declared.address.Given.the-variants.{Is, S2}

@@ -7,12 +7,12 @@ use native.Mathlib.Omega.{arith}
 use borrow.Author.Tests.{le-ltb, lt-ltb, ltb-true, leb-true, leb-false}
 use lib.Dec.{ltb, leb}
 use lib.ListN.{length}
+use Rattle.basics.specs.Exactly.{Exactly}
 use Rattle.basics.proofs.Choice.{by}
 use Rattle.text.specs.declared.Data.{Data}
 use Rattle.text.specs.declared.Data.the-variants as D
 use Rattle.text.specs.Data.{spaceless, dataOf, receivedOf}
 use Rattle.machine.specs.declared.Device.{Device}
-use Rattle.machine.specs.Refusals.{Exactly}
 use Rattle.pipettor.specs.declared.address.Address.{Address}
 use Rattle.frames.specs.Refused.{refusalOf, isReport, reportFirst, too-many-bytes}
 use Rattle.frames.specs.Limits.{RefusesWith}

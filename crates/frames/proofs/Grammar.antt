@@ -8,6 +8,7 @@ use lib.Dec.{eqb}
 use lib.ListN.{length, length-append}
 use Rattle.basics.specs.Choice.{if_then_else_}
 use Rattle.basics.specs.Bytes.{every}
+use Rattle.basics.specs.Exactly.{Exactly}
 use Rattle.basics.proofs.Choice.{by}
 use Rattle.basics.proofs.Digits.{and-both}
 use Rattle.operand.specs.declared.Class.the-variants as Class
@@ -27,7 +28,6 @@ use Rattle.command.specs.Table.{letterOf, made, both, inUnit, volumeOf, pacedOf
 use Rattle.text.specs.declared.Checked.{Checked}
 use Rattle.text.specs.declared.Checked.the-variants.{Fine, Wrong}
 use Rattle.text.specs.Text.{Step, Reading, reads, wrong, thenRead, verdict, readFrom, readOf, checkOf}
-use Rattle.machine.specs.Refusals.{Exactly}
 use Rattle.frames.specs.Grammar.{isAmong, letters, Ended, Operands, Commands, none, command, Apart, UpTo, Judged}
 
 -- the letters of the table, counted by name and by byte

@@ -9,6 +9,7 @@ use lib.Dec.{eqb}
 use lib.ListN.{length}
 use Rattle.basics.specs.Choice.{if_then_else_}
 use Rattle.basics.specs.Lay.{over}
+use Rattle.basics.specs.Exactly.{Exactly}
 use Rattle.command.specs.declared.refusal.Misread.{Misread}
 use Rattle.command.specs.declared.refusal.Misread.the-variants.{Letter, Operand}
 use Rattle.command.specs.Numbers.{refusalNumber}
@@ -30,7 +31,7 @@ use Rattle.machine.specs.Run.{readyOf}
 use Rattle.buffer.specs.Order.{storedBy}
 use Rattle.machine.specs.Act.{coreError, actedOf, actOf}
 use Rattle.machine.specs.Refusals as Buffer
-use Rattle.machine.specs.Refusals.{verdictFor, NothingToRun, run-empty, run-done, again-empty, again-stored, again-stopped, again-delaying, Exactly}
+use Rattle.machine.specs.Refusals.{verdictFor, NothingToRun, run-empty, run-done, again-empty, again-stored, again-stopped, again-delaying}
 use Rattle.machine.proofs.Refusals.{nothing-to-run-is-14, busy-or-too-long-is-15, wrong-loops-are-3, no-other-refusal}
 use Rattle.pipettor.specs.declared.address.Address.{Address}
 use Rattle.reports.specs.declared.Told.{Told}

@@ -8,6 +8,7 @@ use borrow.Author.Tests.{ltb-false, le-ltb}
 use lib.Dec.{eqb, ltb}
 use lib.ListN.{length}
 use Rattle.basics.specs.Choice.{if_then_else_}
+use Rattle.basics.specs.Exactly.{Exactly}
 use Rattle.command.specs.declared.refusal.Misread.{Misread}
 use Rattle.text.specs.declared.Control.{Control}
 use Rattle.text.specs.declared.Control.the-variants.{Run, Stop, Again, Clear, Reset}
@@ -17,7 +18,6 @@ use Rattle.text.specs.declared.Data.{Data}
 use Rattle.text.specs.declared.Data.the-variants as D
 use Rattle.text.specs.Text.{checkOf}
 use Rattle.text.specs.Data.{spaceless, body, runs, string, stringOf, controlOf, dataOf, receivedOf}
-use Rattle.machine.specs.Refusals.{Exactly}
 use Rattle.frames.specs.Refused.{isReport, reportFirst, controlAlone, IsString, textIn}
 use Rattle.frames.specs.Grammar.{Judged}
 use Rattle.frames.proofs.Grammar.{the-reader-keeps-to-the-grammar}

@@ -5,7 +5,7 @@ use mathlib.Core.List.{List, [], _∷_, _++_}
 use Prim.Native.Nat.{ℕ}
 use Prim.Native.String.{String}
 use lib.ListN.{replicate}
-use Rattle.basics.specs.Bytes.{digit, every, valueOf}
+use Rattle.basics.specs.Bytes.{chars, digit, every, valueOf}
 use Rattle.basics.specs.Lay.{over, fits, laidIn}
 use Rattle.settings.specs.Limits.{within}
 use Rattle.settings.specs.Units.{rateOf, millionthsOf, goalOf, goneOf}
@@ -13,7 +13,6 @@ use Rattle.operand.specs.Text.{run, rest}
 use Rattle.operand.specs.Number.{digits, decimalsOf, followedOf, numberOf, behindComma, pairOf}
 use Rattle.command.specs.Table.{letterOf, allowed, takenOf, wholeOf, nanolitresOf, made, both, inUnit, volumeOf, compensationOf, commandOf}
 use Rattle.command.specs.Command.{placed, foundIn, commandAt}
-use Rattle.command.proofs.Table.{bytes}
 use Rattle.text.specs.Text.{readFrom, readOf}
 use Rattle.text.specs.Loops.{levelOf, levels, loopsOk}
 use Rattle.motion.specs.Events.{Event, start, volume}
@@ -29,7 +28,7 @@ use Rattle.machine.specs.History.Call.{tick, act, stop}
 
 -- a text is run for so many ticks, and then some more calls
 abbrev runs : String → ℕ → List Call → List Call
-runs text n more = act Launch (bytes text) ∷ (replicate n tick ++ more)
+runs text n more = act Launch (chars text) ∷ (replicate n tick ++ more)
 
 pub record Shown : Type 0 where
   pub plunger : ℕ

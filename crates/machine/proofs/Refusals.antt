@@ -9,6 +9,7 @@ use borrow.Author.Tests.{ltb-true, ltb-false, lt-ltb, le-ltb}
 use lib.Dec.{ltb}
 use lib.ListN.{length, take}
 use Rattle.basics.specs.Choice.{if_then_else_}
+use Rattle.basics.specs.Exactly.{Exactly}
 use Rattle.command.specs.declared.refusal.Refusal.{Refusal}
 use Rattle.command.specs.declared.refusal.Refusal.the-variants as R
 use Rattle.command.specs.declared.refusal.Verdict.{Verdict}
@@ -30,7 +31,7 @@ use Rattle.buffer.specs.Course.{columnOf}
 use Rattle.buffer.specs.Order.{cellOf, keptOf, lengthBy, loopsBy, sized, verdictOf, storedBy}
 use Rattle.machine.specs.declared.Device.{Device}
 use Rattle.machine.specs.Act.{coreError, actedOf, acted, actOf}
-use Rattle.machine.specs.Refusals.{storedIn, verdictFor, numberFor, NothingToRun, run-empty, run-done, again-empty, again-stored, again-stopped, again-delaying, Busy, store, store-delaying, clear, clear-delaying, launch, run, again, TooMuch, busy, long, Treeless, Tree, WrongLoops, Exactly}
+use Rattle.machine.specs.Refusals.{storedIn, verdictFor, numberFor, NothingToRun, run-empty, run-done, again-empty, again-stored, again-stopped, again-delaying, Busy, store, store-delaying, clear, clear-delaying, launch, run, again, TooMuch, busy, long, Treeless, Tree, WrongLoops}
 
 -- "a refusal changes nothing but the last error"
 module _ (a : Action) (added : List ℕ) (d : Device) (why : Refusal) (refused : verdictFor a added d ≡ Refused why) where

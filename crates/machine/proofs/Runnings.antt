@@ -5,7 +5,7 @@ use Prim.Native.Nat.{ℕ}
 use Prim.Native.String.{String}
 use native.Mathlib.Omega.{arith}
 use lib.ListN.{replicate}
-use Rattle.basics.specs.Bytes.{digit, every, valueOf}
+use Rattle.basics.specs.Bytes.{chars, digit, every, valueOf}
 use Rattle.basics.specs.Lay.{over, fits, laidIn}
 use Rattle.settings.specs.Limits.{within}
 use Rattle.settings.specs.Units.{rateOf, millionthsOf, goalOf, goneOf}
@@ -13,7 +13,6 @@ use Rattle.operand.specs.Text.{run, rest}
 use Rattle.operand.specs.Number.{digits, decimalsOf, followedOf, numberOf, behindComma, pairOf}
 use Rattle.command.specs.Table.{letterOf, allowed, takenOf, wholeOf, nanolitresOf, made, both, inUnit, volumeOf, compensationOf, commandOf}
 use Rattle.command.specs.Command.{placed, foundIn, commandAt}
-use Rattle.command.proofs.Table.{bytes}
 use Rattle.text.specs.Text.{Step, Reading, reads, wrong, readFrom, readOf}
 use Rattle.text.specs.Loops.{levelOf, levels, loopsOk}
 use Rattle.motion.specs.declared.Activity.the-variants.{Between}
@@ -33,7 +32,7 @@ use Rattle.machine.proofs.OnCourse.{every-device-is-on-course}
 
 -- a text is run for so many ticks
 abbrev runs : String → ℕ → List Call
-runs text n = act Launch (bytes text) ∷ replicate n tick
+runs text n = act Launch (chars text) ∷ replicate n tick
 
 pub record Shown : Type 0 where
   pub state : State
@@ -71,9 +70,9 @@ abbrev stepsOf : Reading → List Step
 stepsOf (reads steps) = steps
 stepsOf (wrong r) = []
 
-pub a-looping-text-is-loaded : Loaded (bytes "gWgWG2G3")
+pub a-looping-text-is-loaded : Loaded (chars "gWgWG2G3")
 unfolding digit every valueOf within run rest digits decimalsOf followedOf numberOf behindComma pairOf letterOf allowed takenOf wholeOf made both inUnit commandOf placed foundIn readFrom readOf
-a-looping-text-is-loaded = record { steps = stepsOf (readOf (bytes "gWgWG2G3")); reading = refl; some = omega arith }
+a-looping-text-is-loaded = record { steps = stepsOf (readOf (chars "gWgWG2G3")); reading = refl; some = omega arith }
 
 pub a-looping-device-is-on-course : OnCourse (after (runs "gWgWG2G3" 3))
 a-looping-device-is-on-course = every-device-is-on-course (runs "gWgWG2G3" 3) (a-looping-text-is-loaded, (tt, (tt, (tt, tt))))

@@ -77,8 +77,3 @@ Treeless (Refuse why) stored added = ⊥
 pub record WrongLoops (a : Action) (s : State) (stored added : List ℕ) : Type 0 where
   pub fits : lengthBy (orderOf a s) (length stored) (length added) ≤ 256
   pub wrong : Treeless (orderOf a s) stored added
-
--- one exactly where the other
-pub record Exactly (A B : Type 0) : Type 0 where
-  pub only : A → B
-  pub always : B → A

@@ -4,5 +4,4 @@ pub mod Controllers
 pub mod Bytes
 pub mod Keeps
 pub mod Listening
-pub mod Keeping
 pub mod Returning

@@ -41,3 +41,7 @@ module _ (k : Controller) where
 -- a byte that isn't heard
 pub short-returns : (k : Controller) (b : ℕ) (buf : List ℕ) → Machine.Valid (k .device .core) → length buf < 32 → Returns (after (reply k S1) buf) (byteOf k b buf .next) k
 short-returns k b buf v h = record { is = short k b buf h; again = record { core = v } }
+
+-- what a program goes by that calls a method which asks nothing
+pub kept : {A : Type 0} (r said : A) (before left : Controller) → Keeps r said before left → Valid before → Valid left
+kept r said before left k v = k .again v

@@ -4,5 +4,4 @@ pub mod Controller
 pub mod Valid
 pub mod Returns
 pub mod Listening
-pub mod Held
 pub mod Lent

@@ -1,11 +1,11 @@
 // Movement ticks by the million, for counting instructions: `t` on standard input is a million through `tick`, `r` a million through `run`.
 use pipettor::Controller;
 use pipettor::address::Address;
-ghost use Rattle.pipettor.specs.Held.{Held};
+ghost use Rattle.pipettor.specs.Valid.{Valid};
 
 fn end_frame(c: Controller) -> Controller
-    requires { ⌜ Held c ⌝ }
-    ensures { λ r. ⌜ Held r ⌝ }
+    requires { ⌜ Valid c ⌝ }
+    ensures { λ r. ⌜ Valid r ⌝ }
 {
     let mut buf = [0u8; 32];
     let reply = c.byte(13, &mut buf);
@@ -14,7 +14,7 @@ fn end_frame(c: Controller) -> Controller
 
 // A method that moves from end to end at the slowest speed, and never ends.
 fn method() -> Controller
-    ensures { λ r. ⌜ Held r ⌝ }
+    ensures { λ r. ⌜ Valid r ⌝ }
 {
     let c = Controller::fresh(Address::One);
     let heard = c.listen(b"/1Wv100V100gA44000A0G0R");
@@ -22,8 +22,8 @@ fn method() -> Controller
 }
 
 fn ticks(start: Controller) -> Controller
-    requires { ⌜ Held start ⌝ }
-    ensures { λ r. ⌜ Held r ⌝ }
+    requires { ⌜ Valid start ⌝ }
+    ensures { λ r. ⌜ Valid r ⌝ }
 {
     let mut c = start;
     let mut k = 0u32;
@@ -36,8 +36,8 @@ fn ticks(start: Controller) -> Controller
 }
 
 fn runs(start: Controller) -> Controller
-    requires { ⌜ Held start ⌝ }
-    ensures { λ r. ⌜ Held r ⌝ }
+    requires { ⌜ Valid start ⌝ }
+    ensures { λ r. ⌜ Valid r ⌝ }
 {
     let mut c = start;
     let mut k = 0u32;

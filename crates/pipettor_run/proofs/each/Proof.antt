@@ -3,10 +3,10 @@ use Rattle.pipettor_run.proofs.each.Statement.{statement}
 use Rattle.pipettor_run.proofs.each.Tie as tie
 use Prim.Native.Nat.{_-_}
 use lib.ListN.{length}
-use Rattle.pipettor.specs.Held.{Held}
+use Rattle.pipettor.specs.Valid.{Valid}
 
 abbrev Inv-loop : tie.InvT-loop
-Inv-loop bytes way c₀ i₀ c i = Held c
+Inv-loop bytes way c₀ i₀ c i = Valid c
 
 abbrev μ-loop : tie.MeasureT-loop
 μ-loop bytes way c₀ i₀ c i = length bytes - i

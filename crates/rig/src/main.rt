@@ -1,0 +1,6 @@
+// The training rig.
+use desk::Desk;
+
+fn main() {
+    console::serve(Desk::Rig);
+}

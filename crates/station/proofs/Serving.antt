@@ -1,0 +1,249 @@
+-- Laws of `specs/Serve`, one for each function's return.
+use mathlib.Core.Path.{_≡_, refl, sym, ap, _∙_}
+use mathlib.Core.Bool.{Bool, true, false}
+use mathlib.Core.List.{List, [], _∷_, _++_}
+use Prim.Native.Nat.{ℕ, zero, suc, _+_, _-_, _*_, _≤_, _<_}
+use native.Mathlib.Omega.{arith}
+use lib.Dec.{eqb}
+use lib.ListN.{length, take, drop, length-drop, length-replicate}
+use Rattle.basics.specs.Bytes.{chars}
+use Rattle.basics.proofs.Lists.{tail-all}
+use Rattle.line.specs.Wire.{slash, cr}
+use Rattle.desk.specs.declared.Desk.{Desk}
+use Rattle.desk.specs.declared.Quantity.{Quantity}
+use Rattle.desk.specs.declared.Quantity.the-variants.{Ticks, Run, Lend, New}
+use Rattle.desk.specs.declared.Asked.{Asked}
+use Rattle.desk.specs.declared.Asked.the-variants.{Send, Number, Stop, Raw, Wrong}
+use Rattle.desk.specs.Desk.{mostOf, askedOf}
+use Rattle.desk.specs.Hex.{bytesIn, hexOf}
+use Rattle.desk.specs.Forms.{Raws}
+use Rattle.desk.proofs.Forms.{a-frame-is-asked-for, a-number-is-asked-for, raw-bytes-are-asked-for}
+use Rattle.pipettor.specs.declared.address.Address.{Address}
+use Rattle.pipettor.specs.declared.address.Address.the-variants.{One}
+use Rattle.pipettor.specs.declared.address.Given.{Given}
+use Rattle.pipettor.specs.declared.address.Given.the-variants.{Is, S2}
+use Rattle.pipettor.specs.declared.Controller.{Controller}
+use Rattle.pipettor.specs.declared.Said.{Said}
+use Rattle.pipettor.specs.declared.Said.the-variants.{Silent, Answer, S1}
+use Rattle.pipettor.specs.declared.Reply.{Reply}
+use Rattle.pipettor.specs.declared.Listened.{Listened}
+use Rattle.pipettor.specs.declared.Ticked.{Ticked}
+use Rattle.pipettor.specs.declared.Ran.{Ran}
+use Rattle.pipettor.specs.Address.{addressOf}
+use Rattle.pipettor.specs.Byte as Byte
+use Rattle.pipettor.specs.Byte.{After, byteOf}
+use Rattle.pipettor.specs.Controller.{madeOf, advancedOf, runOf, stoppedOf}
+use Rattle.pipettor.specs.Listening.{listenedOf}
+use Rattle.pipettor.specs.Valid.{Valid}
+use Rattle.pipettor.specs.Returns.{Returns, Keeps}
+use Rattle.station.specs.declared.Station.{Station}
+use Rattle.station.specs.declared.Told.{Told}
+use Rattle.station.specs.declared.Replied.{Replied}
+use Rattle.printing.specs.Print.{ended, shownOf, placeOf, usedOf, addedOf, Prints}
+use Rattle.station.specs.Serve.{station, atStart, on, blank, Served, served, toldOf, heardOf, after, shownBy, endedOf, goneOn, sentBy, sentOf, placedOf, waitedOf, ranOf, haltedOf, lentOf, madeBy, numberedOf, addedBy, saidTo, rawOf, didOf, servedOf, Manned, Starts, Tells, Replies}
+use Rattle.printing.proofs.Output.{shorter}
+
+-- a station with another controller
+moved : (s k : Station) (c : Controller) → k ≡ on c s → Manned s → Valid c → Manned k
+moved s k c e m v = rw e (record { valid = v; lend = m .lend })
+
+pub starts : (desk : Desk) (c : Controller) → Returns c (madeOf One .next) c → Starts desk (record { desk = desk; lend = 32; controller = c })
+starts desk c r = record { is = ap (station desk 32) (r .is); manned = record { valid = r .again; lend = omega arith } }
+
+-- a byte
+pub tells :
+    (b : ℕ) (s k : Station) (r : Reply) (before left : List ℕ) → Manned s → Returns (Byte.after r left) (byteOf (s .controller) b before .next) (r .controller) → k ≡ on (r .controller) s → length left ≡ length before →
+    Tells b s before (record { station = k; said = r .said }) left
+unfolding toldOf
+tells b s k r before left m t e l = record {
+  is = e ∙ ap (λ (a : After). on (a .reply .controller) s) (t .is);
+  again = moved s k (r .controller) e m (t .again);
+  said = ap (λ (a : After). a .reply .said) (t .is);
+  buffer = ap (λ (a : After). a .buffer) (t .is);
+  long = l;
+}
+
+-- the station's buffers
+zeros : (n m : ℕ) → n ≤ m → take n (blank m) ≡ blank n
+zeros zero m h = refl
+zeros (suc n) zero h = absurd (omega arith)
+zeros (suc n) (suc m) h = ap (_∷_ 0) (zeros n m (omega arith))
+
+module _ (s : Station) (m : Manned s) where
+  lent : take (s .lend) (blank 64) ≡ blank (s .lend)
+  lent = zeros (s .lend) 64 (m .lend)
+
+  pub buffer-counted : s .lend ≡ length (take (s .lend) (blank 64))
+  buffer-counted = rw lent (sym (length-replicate (s .lend) 0))
+
+  pub buffer-short : length (take (s .lend) (blank 64)) ≤ 64
+  buffer-short = rw lent (omega (arith, m .lend, length-replicate {A = ℕ} (s .lend) 0))
+
+-- a frame
+module _ (s k : Station) (said : Said) (buf left out after-it : List ℕ) (at end : ℕ) where
+  pub finished : Tells 13 s buf (record { station = k; said = said }) left → Prints 65 (shownOf said left) at out end after-it → Replies 65 (shownBy (toldOf 13 buf s) s) at out (record { station = k; end = end }) after-it
+  finished t p = record { is = t .is; again = t .again; prints = rw (← t .said, ← t .buffer) p }
+
+  pub heard : (b : ℕ) (first : Bool) → Tells b s buf (record { station = k; said = said }) left → Prints 195 (addedOf first said left) at out end after-it → Replies 195 (addedBy first (toldOf b buf s) s) at out (record { station = k; end = end }) after-it
+  heard b first t p = record { is = t .is; again = t .again; prints = rw (← t .said, ← t .buffer) p }
+
+module _ (s : Station) (m : Manned s) (at : ℕ) (out : List ℕ) (r : Replied) (left : List ℕ) where
+  pub ends-frame : Replies 65 (shownBy (toldOf 13 (take (s .lend) (blank 64)) s) s) at out r left → Replies 65 (endedOf s) at out r left
+  unfolding endedOf heardOf
+  ends-frame q = rw (lent s m) at q
+
+  pub says-to : (b : ℕ) (first : Bool) → Replies 195 (addedBy first (toldOf b (take (s .lend) (blank 64)) s) s) at out r left → Replies 195 (saidTo b first s) at out r left
+  unfolding saidTo heardOf
+  says-to b first q = rw (lent s m) at q
+
+module _ (s k : Station) (m : Manned s) (text : List ℕ) (l : Listened) (h : Keeps l (listenedOf (s .controller) text) (s .controller) (l .controller)) (e : k ≡ on (l .controller) s) where
+  pub still-manned : Manned k
+  still-manned = moved s k (l .controller) e m (h .again (m .valid))
+
+  pub goes-on : (at : ℕ) (out : List ℕ) (r : Replied) (left : List ℕ) → Replies 65 (endedOf k) at out r left → Replies 65 (goneOn text s) at out r left
+  unfolding goneOn
+  goes-on at out r left q = rw (e, h .is) at q
+
+module _ (s k : Station) (m : Manned s) (said : Said) (text buf : List ℕ) (t : Tells 47 s (take (s .lend) (blank 64)) (record { station = k; said = said }) buf) (at : ℕ) (out left : List ℕ) where
+  first : sentBy said text k ≡ sentOf text s
+  unfolding sentOf heardOf
+  first = rw (t .said, t .is, lent s m)
+
+  module _ (r : Replied) where
+    sends : (w : Served) → sentBy said text k ≡ w → Replies 65 w at out r left → Replies 65 (sentOf text s) at out r left
+    sends w e q = rw (sym e ∙ first) at q
+
+    pub sends-on : said ≡ Silent → Replies 65 (goneOn text k) at out r left → Replies 65 (sentOf text s) at out r left
+    unfolding sentBy
+    sends-on e q = sends (goneOn text k) (rw e) q
+
+    pub sends-on-too : (n : ℕ) → said ≡ Answer n → Replies 65 (goneOn text k) at out r left → Replies 65 (sentOf text s) at out r left
+    unfolding sentBy
+    sends-on-too n e q = sends (goneOn text k) (rw e) q
+
+  pub refused : (end : ℕ) → said ≡ S1 → Prints 3 (ended (83 ∷ 49 ∷ [])) at out end left → Replies 65 (sentOf text s) at out (record { station = k; end = end }) left
+  unfolding sentBy
+  refused end e p = sends (record { station = k; end = end }) (served k (ended (chars "S1"))) (rw e) (record { is = refl; again = t .again; prints = shorter 3 65 (ended (chars "S1")) at end out left (omega arith) p })
+
+-- ticks, a run, the stop
+module _ (s k : Station) (m : Manned s) (at end : ℕ) (out left : List ℕ) where
+  pub places : (c : Controller) → Valid c → k ≡ on c s → Prints 32 (placeOf (c .device .core .body .plunger) (c .device .core .body .exact)) at out end left → Replies 32 (placedOf c s) at out (record { station = k; end = end }) left
+  unfolding placedOf
+  places c v e p = record { is = e; again = moved s k c e m v; prints = p }
+
+  pub runs :
+      (n : ℕ) (r : Ran) → Returns r (runOf n (s .controller)) (r .ticked .controller) → k ≡ on (r .ticked .controller) s →
+      Prints 43 (usedOf (r .used) (r .ticked .controller .device .core .body .plunger) (r .ticked .controller .device .core .body .exact)) at out end left → Replies 43 (ranOf n s) at out (record { station = k; end = end }) left
+  unfolding ranOf
+  runs n r t e p = record {
+    is = e ∙ ap (λ (x : Ran). on (x .ticked .controller) s) (t .is);
+    again = moved s k (r .ticked .controller) e m (t .again);
+    prints = rw (t .is) at p;
+  }
+
+pub stopped-valid : (s : Station) (c : Controller) → Manned s → Keeps c (stoppedOf (s .controller) .next) (s .controller) c → Valid c
+stopped-valid s c m h = h .again (m .valid)
+
+module _ (s : Station) (at : ℕ) (out : List ℕ) (r : Replied) (left : List ℕ) where
+  pub waits : (n : ℕ) (t : Ticked) → Returns t (advancedOf n (s .controller)) (t .controller) → Replies 32 (placedOf (t .controller) s) at out r left → Replies 32 (waitedOf n s) at out r left
+  waits n t h q = rw (h .is) at q
+
+  pub halts : (c : Controller) → Keeps c (stoppedOf (s .controller) .next) (s .controller) c → Replies 32 (placedOf c s) at out r left → Replies 32 (haltedOf s) at out r left
+  halts c h q = rw (h .is) at q
+
+-- buffers and addresses
+module _ (s : Station) (m : Manned s) (at end : ℕ) (out left : List ℕ) where
+  pub lends : (n : ℕ) → n ≤ 64 → Prints 3 (ended (111 ∷ 107 ∷ [])) at out end left → Replies 3 (lentOf n s) at out (record { station = station (s .desk) n (s .controller); end = end }) left
+  lends n h p = record { is = refl; again = record { valid = m .valid; lend = h }; prints = p }
+
+  pub renews : (a : Address) (c : Controller) (k : Station) → Returns c (madeOf a .next) c → k ≡ on c s → Prints 3 (ended (111 ∷ 107 ∷ [])) at out end left → Replies 3 (madeBy (Is a) s) at out (record { station = k; end = end }) left
+  unfolding madeBy
+  renews a c k r q p = record { is = q ∙ ap (λ (x : Controller). on x s) (r .is); again = moved s k c q m (r .again); prints = p }
+
+  pub makes-none : (n : ℕ) (g : Given) → g ≡ addressOf n → g ≡ S2 → Prints 3 (ended (83 ∷ 50 ∷ [])) at out end left → Replies 3 (madeBy (addressOf n) s) at out (record { station = s; end = end }) left
+  unfolding madeBy
+  makes-none n g f e p = rw (← f, e) (record { is = refl; again = m; prints = p })
+
+  pub asks-back : Prints 2 (ended (63 ∷ [])) at out end left → Replies 2 (didOf Wrong [] s) at out (record { station = s; end = end }) left
+  unfolding didOf
+  asks-back p = record { is = refl; again = m; prints = p }
+
+pub makes : (n : ℕ) (g : Given) (a : Address) (s : Station) (at : ℕ) (out : List ℕ) (r : Replied) (left : List ℕ) → g ≡ addressOf n → g ≡ Is a → Replies 3 (madeBy (Is a) s) at out r left → Replies 3 (madeBy (addressOf n) s) at out r left
+makes n g a s at out r left f e q = rw (← f, e) q
+
+-- by what is asked
+weaker : (j k : ℕ) (w : Served) (at : ℕ) (out : List ℕ) (r : Replied) (left : List ℕ) → j ≤ k → Replies j w at out r left → Replies k w at out r left
+weaker j k w at out r left h q = record { is = q .is; again = q .again; prints = shorter j k (w .text) at (r .end) out left h (q .prints) }
+
+module _ (q : Quantity) (n : ℕ) (s : Station) (at : ℕ) (out : List ℕ) (r : Replied) (left : List ℕ) where
+  pub numbered-ticks : q ≡ Ticks → Replies 32 (waitedOf n s) at out r left → Replies 65 (numberedOf q n s) at out r left
+  unfolding numberedOf
+  numbered-ticks e p = rw e (weaker 32 65 (waitedOf n s) at out r left (omega arith) p)
+
+  pub numbered-run : q ≡ Run → Replies 43 (ranOf n s) at out r left → Replies 65 (numberedOf q n s) at out r left
+  unfolding numberedOf
+  numbered-run e p = rw e (weaker 43 65 (ranOf n s) at out r left (omega arith) p)
+
+  pub numbered-lend : q ≡ Lend → Replies 3 (lentOf n s) at out r left → Replies 65 (numberedOf q n s) at out r left
+  unfolding numberedOf
+  numbered-lend e p = rw e (weaker 3 65 (lentOf n s) at out r left (omega arith) p)
+
+  pub numbered-new : q ≡ New → Replies 3 (madeBy (addressOf n) s) at out r left → Replies 65 (numberedOf q n s) at out r left
+  unfolding numberedOf
+  numbered-new e p = rw e (weaker 3 65 (madeBy (addressOf n) s) at out r left (omega arith) p)
+
+pub lend-within : (q : Quantity) (n : ℕ) → q ≡ Lend → n ≤ mostOf q → n ≤ 64
+lend-within q n e h = rw e at h
+
+module _ (line : List ℕ) (s : Station) (a : Asked) (e : a ≡ askedOf (s .desk) line) where
+  pub frame-starts : a ≡ Send → 2 ≤ length line
+  frame-starts q =
+      let f = a-frame-is-asked-for (s .desk) line .only (sym e ∙ q) in
+      let n : length line ≡ length (chars "> " ++ f .text) = ap (λ (t : List ℕ). length t) (f .form) in
+      omega arith
+
+  raw-line : a ≡ Raw → Raws (s .desk) line
+  raw-line q = raw-bytes-are-asked-for (s .desk) line .only (sym e ∙ q)
+
+  pub bytes-start : a ≡ Raw → 2 ≤ length line
+  bytes-start q =
+      let n : length line ≡ length (chars "x " ++ hexOf (raw-line q .bytes)) = ap (λ (t : List ℕ). length t) (raw-line q .form) in
+      omega arith
+
+  pub bytes-few : a ≡ Raw → length (take (length line - 2) (drop 2 line)) ≤ 400
+  bytes-few q = rw (tail-all 2 line) (omega (arith, raw-line q .clean .short, length-drop 2 line))
+
+  pub bytes-fit : (at : ℕ) (out : List ℕ) → a ≡ Raw → at + 80 * (length line + 1) ≤ length out → at + 80 * (length (take (length line - 2) (drop 2 line)) + 3) ≤ length out
+  bytes-fit at out q h = rw (tail-all 2 line) (omega (arith, bytes-start q, length-drop 2 line))
+
+  pub number-within : (q : Quantity) (n : ℕ) → a ≡ Number q n → n ≤ mostOf q
+  number-within q n h = a-number-is-asked-for (s .desk) line q n .only (sym e ∙ h) .most
+
+  module _ (at : ℕ) (out : List ℕ) (r : Replied) (left : List ℕ) where
+    answers : (j : ℕ) (w : Served) → didOf a line s ≡ w → j ≤ 80 * (length line + 1) → Replies j w at out r left → Replies (80 * (length line + 1)) (servedOf line s) at out r left
+    unfolding servedOf
+    answers j w d h p = weaker j (80 * (length line + 1)) (didOf (askedOf (s .desk) line) line s) at out r left h (rw (sym d ∙ ap (λ (x : Asked). didOf x line s) e) at p)
+
+    pub answers-frame : a ≡ Send → Replies 65 (sentOf (take (length line - 2) (drop 2 line)) s) at out r left → Replies (80 * (length line + 1)) (servedOf line s) at out r left
+    unfolding didOf
+    answers-frame q p = answers 65 (sentOf (take (length line - 2) (drop 2 line)) s) (rw (q, tail-all 2 line)) (omega arith) p
+
+    pub answers-number : (x : Quantity) (n : ℕ) → a ≡ Number x n → Replies 65 (numberedOf x n s) at out r left → Replies (80 * (length line + 1)) (servedOf line s) at out r left
+    unfolding didOf
+    answers-number x n q p = answers 65 (numberedOf x n s) (rw q) (omega arith) p
+
+    pub answers-stop : a ≡ Stop → Replies 32 (haltedOf s) at out r left → Replies (80 * (length line + 1)) (servedOf line s) at out r left
+    unfolding didOf
+    answers-stop q p = answers 32 (haltedOf s) (rw q) (omega arith) p
+
+    pub answers-bytes :
+        a ≡ Raw → Replies (80 * (length (take (length line - 2) (drop 2 line)) + 3)) (rawOf (bytesIn (take (length line - 2) (drop 2 line))) s) at out r left →
+        Replies (80 * (length line + 1)) (servedOf line s) at out r left
+    unfolding didOf
+    answers-bytes q p =
+        answers (80 * (length (take (length line - 2) (drop 2 line)) + 3)) (rawOf (bytesIn (take (length line - 2) (drop 2 line))) s) (rw (q, tail-all 2 line))
+        (rw (tail-all 2 line) (omega (arith, bytes-start q, length-drop 2 line))) p
+
+    pub answers-other : a ≡ Wrong → Replies 2 (didOf Wrong [] s) at out r left → Replies (80 * (length line + 1)) (servedOf line s) at out r left
+    unfolding didOf
+    answers-other q p = answers 2 (didOf Wrong [] s) (rw q) (omega arith) p

@@ -1,0 +1,174 @@
+-- What a line does to a station and what it prints: 01, "The bench program", and the training rig.
+use Prim.Native.Nat.{ℕ, _≤_}
+use mathlib.Core.Path.{_≡_}
+use mathlib.Core.Bool.{Bool}
+use mathlib.Core.List.{List, [], _∷_, _++_}
+use lib.Dec.{eqb}
+use lib.ListN.{length, drop, replicate}
+use Rattle.basics.specs.Bytes.{chars}
+use Rattle.line.specs.Wire.{slash, cr}
+use Rattle.desk.specs.declared.Desk.{Desk}
+use Rattle.desk.specs.declared.Quantity.{Quantity}
+use Rattle.desk.specs.declared.Quantity.the-variants.{Ticks, Run, Lend, New}
+use Rattle.desk.specs.declared.Asked.{Asked}
+use Rattle.desk.specs.declared.Asked.the-variants.{Send, Number, Stop, Raw, Wrong}
+use Rattle.desk.specs.Desk.{askedOf}
+use Rattle.desk.specs.Hex.{bytesIn}
+use Rattle.pipettor.specs.declared.address.Address.the-variants.{One}
+use Rattle.pipettor.specs.declared.address.Given.{Given}
+use Rattle.pipettor.specs.declared.address.Given.the-variants.{Is, S2}
+use Rattle.pipettor.specs.declared.Controller.{Controller}
+use Rattle.pipettor.specs.declared.Said.{Said}
+use Rattle.pipettor.specs.declared.Said.the-variants.{Silent, Answer, S1}
+use Rattle.pipettor.specs.Address.{addressOf}
+use Rattle.pipettor.specs.Byte.{After, byteOf}
+use Rattle.pipettor.specs.Controller.{madeOf, advancedOf, runOf, stoppedOf}
+use Rattle.pipettor.specs.Listening.{listenedOf}
+use Rattle.pipettor.specs.Valid.{Valid}
+use Rattle.station.specs.declared.Station.{Station}
+use Rattle.station.specs.declared.Told.{Told}
+use Rattle.station.specs.declared.Replied.{Replied}
+use Rattle.printing.specs.Print.{ended, shownOf, placeOf, usedOf, addedOf, closeOf, Prints}
+
+abbrev pub station : Desk → ℕ → Controller → Station
+station desk lend k = record { desk = desk; lend = lend; controller = k }
+
+-- "Address 1"; answer buffers of 32 bytes at first
+abbrev pub atStart : Desk → Station
+atStart desk = station desk 32 (madeOf One .next)
+
+abbrev pub on : Controller → Station → Station
+on k s = station (s .desk) (s .lend) k
+
+-- what a line leaves and prints
+pub record Served : Type 0 where
+  pub station : Station
+  pub text : List ℕ
+
+abbrev pub served : Station → List ℕ → Served
+served s text = record { station = s; text = text }
+
+-- a byte, with a buffer lent for the answer
+unfoldable pub toldOf : ℕ → List ℕ → Station → After
+toldOf b buf s = byteOf (s .controller) b buf .next
+
+-- the station's buffers
+abbrev pub blank : ℕ → List ℕ
+blank n = replicate n 0
+
+unfoldable pub heardOf : ℕ → Station → After
+heardOf b s = toldOf b (blank (s .lend)) s
+
+abbrev pub after : After → Station → Station
+after a s = on (a .reply .controller) s
+
+-- "sends `/`, the text, CR": no frame ends before the CR
+abbrev pub shownBy : After → Station → Served
+shownBy a s = served (after a s) (shownOf (a .reply .said) (a .buffer))
+
+unfoldable pub endedOf : Station → Served
+endedOf s = shownBy (heardOf cr s) s
+
+unfoldable pub goneOn : List ℕ → Station → Served
+goneOn text s = endedOf (on (listenedOf (s .controller) text .controller) s)
+
+-- the first byte tells that a buffer is too short
+unfoldable pub sentBy : Said → List ℕ → Station → Served
+sentBy Silent text s = goneOn text s
+sentBy (Answer n) text s = goneOn text s
+sentBy S1 text s = served s (ended (chars "S1"))
+
+unfoldable pub sentOf : List ℕ → Station → Served
+sentOf text s = let a = heardOf slash s in sentBy (a .reply .said) text (after a s)
+
+-- where the plunger stands, and the exact position
+unfoldable pub placedOf : Controller → Station → Served
+placedOf k s = let b = k .device .core .body in served (on k s) (placeOf (b .plunger) (b .exact))
+
+-- "n ticks, ready or not"
+abbrev pub waitedOf : ℕ → Station → Served
+waitedOf n s = placedOf (advancedOf n (s .controller) .controller) s
+
+-- "a run of up to n ticks"
+unfoldable pub ranOf : ℕ → Station → Served
+ranOf n s =
+    let r = runOf n (s .controller) in
+    let b = r .ticked .controller .device .core .body in
+    served (on (r .ticked .controller) s) (usedOf (r .used) (b .plunger) (b .exact))
+
+-- "the host's stop"
+abbrev pub haltedOf : Station → Served
+haltedOf s = placedOf (stoppedOf (s .controller) .next) s
+
+-- "answer buffers have n bytes from now on"
+abbrev pub lentOf : ℕ → Station → Served
+lentOf n s = served (station (s .desk) n (s .controller)) (ended (chars "ok"))
+
+-- "a fresh controller of that address ..; n not in 1 to 9 leaves the old one"
+unfoldable pub madeBy : Given → Station → Served
+madeBy (Is a) s = served (on (madeOf a .next) s) (ended (chars "ok"))
+madeBy S2 s = served s (ended (chars "S2"))
+
+unfoldable pub numberedOf : Quantity → ℕ → Station → Served
+numberedOf Ticks n s = waitedOf n s
+numberedOf Run n s = ranOf n s
+numberedOf Lend n s = lentOf n s
+numberedOf New n s = madeBy (addressOf n) s
+
+-- "raw bytes", one after the other, and what each adds to what was said
+abbrev pub silent : List ℕ → Bool
+silent text = eqb (length text) 0
+
+abbrev pub addedBy : Bool → After → Station → Served
+addedBy first a s = served (after a s) (addedOf first (a .reply .said) (a .buffer))
+
+unfoldable pub saidTo : ℕ → Bool → Station → Served
+saidTo b first s = addedBy first (heardOf b s) s
+
+abbrev pub rawByte : ℕ → Served → Served
+rawByte b t = let a = saidTo b (silent (t .text)) (t .station) in served (a .station) (t .text ++ a .text)
+
+unfoldable pub rawFrom : List ℕ → Served → Served
+rawFrom [] t = t
+rawFrom (b ∷ bs) t = rawFrom bs (rawByte b t)
+
+abbrev pub closed : Served → Served
+closed t = served (t .station) (t .text ++ closeOf (silent (t .text)))
+
+unfoldable pub rawOf : List ℕ → Station → Served
+rawOf bytes s = closed (rawFrom bytes (served s []))
+
+-- by what a line asks
+unfoldable pub didOf : Asked → List ℕ → Station → Served
+didOf Send line s = sentOf (drop 2 line) s
+didOf (Number q n) line s = numberedOf q n s
+didOf Stop line s = haltedOf s
+didOf Raw line s = rawOf (bytesIn (drop 2 line)) s
+didOf Wrong line s = served s (ended (chars "?"))
+
+unfoldable pub servedOf : List ℕ → Station → Served
+servedOf line s = didOf (askedOf (s .desk) line) line s
+
+-- a station that came from making and earlier lines
+pub record Manned (s : Station) : Type 0 where
+  pub valid : Valid (s .controller)
+  pub lend : s .lend ≤ 64
+
+-- the first of them
+pub record Starts (desk : Desk) (r : Station) : Type 0 where
+  pub is : r ≡ atStart desk
+  pub manned : Manned r
+
+-- a byte heard
+pub record Tells (b : ℕ) (s : Station) (before : List ℕ) (r : Told) (left : List ℕ) : Type 0 where
+  pub is : r .station ≡ after (toldOf b before s) s
+  pub again : Manned (r .station)
+  pub said : r .said ≡ toldOf b before s .reply .said
+  pub buffer : left ≡ toldOf b before s .buffer
+  pub long : length left ≡ length before
+
+-- what a line's function promises: the station left, and what is printed, of at most so many bytes
+pub record Replies (most : ℕ) (wanted : Served) (at : ℕ) (before : List ℕ) (r : Replied) (after : List ℕ) : Type 0 where
+  pub is : r .station ≡ wanted .station
+  pub again : Manned (r .station)
+  pub prints : Prints most (wanted .text) at before (r .end) after

@@ -1,0 +1,333 @@
+// A host's part: what a line of the bench program or of the training rig does to a controller, and what it prints.
+use desk::Asked;
+use desk::Desk;
+use desk::Quantity;
+use desk::hex;
+use pipettor::Controller;
+use pipettor::Said;
+use pipettor::address::Address;
+use pipettor::address::Given;
+ghost use mathlib.Core.Path.{_≡_};
+ghost use mathlib.Core.List.{[]};
+ghost use Prim.Native.Nat.{_+_, _*_, _≤_};
+ghost use lib.ListN.{length};
+ghost use Rattle.desk.specs.Desk.{mostOf};
+ghost use Rattle.desk.specs.Hex.{bytesIn};
+ghost use Rattle.pipettor.specs.Valid.{Valid};
+ghost use Rattle.pipettor.specs.Address.{addressOf};
+ghost use Rattle.station.specs.Serve.{on, toldOf, shownBy, addedBy, goneOn, endedOf, sentOf, placedOf, waitedOf, ranOf, haltedOf, lentOf, madeBy, numberedOf, saidTo, rawOf, didOf, servedOf, Manned, Starts, Tells, Replies};
+
+// Whose lines are taken, how many bytes the answer buffers have, and the controller.
+pub struct Station {
+    pub desk: Desk,
+    pub lend: usize,
+    pub controller: Controller,
+}
+
+// A station after a line, and where what the line prints ends.
+pub struct Replied {
+    pub station: Station,
+    pub end: usize,
+}
+
+// A station after a byte, and what was said to it.
+struct Told {
+    station: Station,
+    said: Said,
+}
+
+impl Station {
+    // "Address 1."
+    pub fn new(desk: Desk) -> Station
+        ensures { λ r. ⌜ Starts desk r ⌝ }
+    {
+        let controller = Controller::fresh(Address::One);
+        Station {
+            desk,
+            lend: 32,
+            controller,
+        }
+    }
+
+    fn on(self, controller: Controller) -> Station
+        ensures { λ r. ⌜ r ≡ on controller self ⌝ }
+    {
+        let desk = self.desk;
+        Station {
+            desk,
+            lend: self.lend,
+            controller,
+        }
+    }
+
+    // A byte, with a buffer lent.
+    fn tell(self, b: u8, buf: &mut [u8]) -> Told
+        requires { ⌜ Manned self ⌝ }
+        ensures { λ r. ⌜ Tells b self (now (buf .entry)) r (now (buf .exit)) ⌝ }
+    {
+        let c = self.controller;
+        let reply = c.byte(b, buf);
+        let after = reply.controller;
+        let said = reply.said;
+        Told {
+            station: self.on(after),
+            said,
+        }
+    }
+
+    // The CR, and what is answered.
+    fn finish_in(self, buf: &mut [u8], out: &mut [u8], at: usize) -> Replied
+        requires { ⌜ Manned self ⌝ }
+        requires { ⌜ length (now buf) ≤ 64 ⌝ }
+        requires { ⌜ at + 65 ≤ length (now out) ⌝ }
+        ensures { λ r. ⌜ Replies 65 (shownBy (toldOf 13 (now (buf .entry)) self) self) at (now (out .entry)) r (now (out .exit)) ⌝ }
+    {
+        let told = self.tell(13, buf);
+        let said = told.said;
+        let end = printing::show(said, buf, out, at);
+        let station = told.station;
+        Replied { station, end }
+    }
+
+    fn finish(self, out: &mut [u8], at: usize) -> Replied
+        requires { ⌜ Manned self ⌝ }
+        requires { ⌜ at + 65 ≤ length (now out) ⌝ }
+        ensures { λ r. ⌜ Replies 65 (endedOf self) at (now (out .entry)) r (now (out .exit)) ⌝ }
+    {
+        let mut buf = [0u8; 64];
+        let lend = self.lend;
+        self.finish_in(&mut buf[..lend], out, at)
+    }
+
+    // The text and the CR: no frame ends before that.
+    fn go_on(self, text: &[u8], out: &mut [u8], at: usize) -> Replied
+        requires { ⌜ Manned self ⌝ }
+        requires { ⌜ at + 65 ≤ length (now out) ⌝ }
+        ensures { λ r. ⌜ Replies 65 (goneOn (now (text .entry)) self) at (now (out .entry)) r (now (out .exit)) ⌝ }
+    {
+        let c = self.controller;
+        let fed = c.listen(text);
+        let after = fed.controller;
+        let begun = self.on(after);
+        begun.finish(out, at)
+    }
+
+    // "sends `/`, the text, CR"
+    fn send(self, text: &[u8], out: &mut [u8], at: usize) -> Replied
+        requires { ⌜ Manned self ⌝ }
+        requires { ⌜ at + 65 ≤ length (now out) ⌝ }
+        ensures { λ r. ⌜ Replies 65 (sentOf (now (text .entry)) self) at (now (out .entry)) r (now (out .exit)) ⌝ }
+    {
+        let mut buf = [0u8; 64];
+        let lend = self.lend;
+        let told = self.tell(b'/', &mut buf[..lend]);
+        let said = told.said;
+        let begun = told.station;
+        match said {
+            Said::Silent => begun.go_on(text, out, at),
+            Said::Answer(_) => begun.go_on(text, out, at),
+            Said::S1 => {
+                let end = printing::line(b"S1", out, at);
+                Replied {
+                    station: begun,
+                    end,
+                }
+            }
+        }
+    }
+
+    // Where the plunger is left.
+    fn place(self, controller: Controller, out: &mut [u8], at: usize) -> Replied
+        requires { ⌜ Manned self ⌝ }
+        requires { ⌜ Valid controller ⌝ }
+        requires { ⌜ at + 32 ≤ length (now out) ⌝ }
+        ensures { λ r. ⌜ Replies 32 (placedOf controller self) at (now (out .entry)) r (now (out .exit)) ⌝ }
+    {
+        let device = controller.device;
+        let core = device.core;
+        let body = core.body;
+        let end = printing::place(body.plunger, body.exact, out, at);
+        Replied {
+            station: self.on(controller),
+            end,
+        }
+    }
+
+    fn wait(self, n: u32, out: &mut [u8], at: usize) -> Replied
+        requires { ⌜ Manned self ⌝ }
+        requires { ⌜ at + 32 ≤ length (now out) ⌝ }
+        ensures { λ r. ⌜ Replies 32 (waitedOf n self) at (now (out .entry)) r (now (out .exit)) ⌝ }
+    {
+        let c = self.controller;
+        let ticked = c.advance(n);
+        let after = ticked.controller;
+        self.place(after, out, at)
+    }
+
+    fn run(self, n: u32, out: &mut [u8], at: usize) -> Replied
+        requires { ⌜ Manned self ⌝ }
+        requires { ⌜ at + 43 ≤ length (now out) ⌝ }
+        ensures { λ r. ⌜ Replies 43 (ranOf n self) at (now (out .entry)) r (now (out .exit)) ⌝ }
+    {
+        let c = self.controller;
+        let ran = c.run(n);
+        let used = ran.used;
+        let ticked = ran.ticked;
+        let after = ticked.controller;
+        let device = after.device;
+        let core = device.core;
+        let body = core.body;
+        let end = printing::used(used, body.plunger, body.exact, out, at);
+        Replied {
+            station: self.on(after),
+            end,
+        }
+    }
+
+    fn stop(self, out: &mut [u8], at: usize) -> Replied
+        requires { ⌜ Manned self ⌝ }
+        requires { ⌜ at + 32 ≤ length (now out) ⌝ }
+        ensures { λ r. ⌜ Replies 32 (haltedOf self) at (now (out .entry)) r (now (out .exit)) ⌝ }
+    {
+        let c = self.controller;
+        let after = c.stop();
+        self.place(after, out, at)
+    }
+
+    // Answer buffers of n bytes from now on.
+    fn buffers(self, n: u32, out: &mut [u8], at: usize) -> Replied
+        requires { ⌜ Manned self ⌝ }
+        requires { ⌜ n ≤ 64 ⌝ }
+        requires { ⌜ at + 3 ≤ length (now out) ⌝ }
+        ensures { λ r. ⌜ Replies 3 (lentOf n self) at (now (out .entry)) r (now (out .exit)) ⌝ }
+    {
+        let desk = self.desk;
+        let controller = self.controller;
+        let lend = n as usize;
+        let end = printing::line(b"ok", out, at);
+        Replied {
+            station: Station {
+                desk,
+                lend,
+                controller,
+            },
+            end,
+        }
+    }
+
+    // A fresh controller.
+    fn renew(self, a: Address, out: &mut [u8], at: usize) -> Replied
+        requires { ⌜ Manned self ⌝ }
+        requires { ⌜ at + 3 ≤ length (now out) ⌝ }
+        ensures { λ r. ⌜ Replies 3 (madeBy (Given.Is a) self) at (now (out .entry)) r (now (out .exit)) ⌝ }
+    {
+        let fresh = Controller::fresh(a);
+        let end = printing::line(b"ok", out, at);
+        Replied {
+            station: self.on(fresh),
+            end,
+        }
+    }
+
+    // A fresh controller, or S2 and the old one.
+    fn make(self, n: u32, out: &mut [u8], at: usize) -> Replied
+        requires { ⌜ Manned self ⌝ }
+        requires { ⌜ at + 3 ≤ length (now out) ⌝ }
+        ensures { λ r. ⌜ Replies 3 (madeBy (addressOf n) self) at (now (out .entry)) r (now (out .exit)) ⌝ }
+    {
+        match Address::of(n) {
+            Given::Is(a) => self.renew(a, out, at),
+            Given::S2 => {
+                let end = printing::line(b"S2", out, at);
+                Replied { station: self, end }
+            }
+        }
+    }
+
+    fn number(self, q: Quantity, n: u32, out: &mut [u8], at: usize) -> Replied
+        requires { ⌜ Manned self ⌝ }
+        requires { ⌜ n ≤ mostOf q ⌝ }
+        requires { ⌜ at + 65 ≤ length (now out) ⌝ }
+        ensures { λ r. ⌜ Replies 65 (numberedOf q n self) at (now (out .entry)) r (now (out .exit)) ⌝ }
+    {
+        match q {
+            Quantity::Ticks => self.wait(n, out, at),
+            Quantity::Run => self.run(n, out, at),
+            Quantity::Lend => self.buffers(n, out, at),
+            Quantity::New => self.make(n, out, at),
+        }
+    }
+
+    // A raw byte, and what is said to it.
+    fn hear_in(self, b: u8, first: bool, buf: &mut [u8], out: &mut [u8], at: usize) -> Replied
+        requires { ⌜ Manned self ⌝ }
+        requires { ⌜ length (now buf) ≤ 64 ⌝ }
+        requires { ⌜ at + 195 ≤ length (now out) ⌝ }
+        ensures { λ r. ⌜ Replies 195 (addedBy first (toldOf b (now (buf .entry)) self) self) at (now (out .entry)) r (now (out .exit)) ⌝ }
+    {
+        let told = self.tell(b, buf);
+        let said = told.said;
+        let end = printing::raw(first, said, buf, out, at);
+        let station = told.station;
+        Replied { station, end }
+    }
+
+    fn hear(self, b: u8, first: bool, out: &mut [u8], at: usize) -> Replied
+        requires { ⌜ Manned self ⌝ }
+        requires { ⌜ at + 195 ≤ length (now out) ⌝ }
+        ensures { λ r. ⌜ Replies 195 (saidTo b first self) at (now (out .entry)) r (now (out .exit)) ⌝ }
+    {
+        let mut buf = [0u8; 64];
+        let lend = self.lend;
+        self.hear_in(b, first, &mut buf[..lend], out, at)
+    }
+
+    fn raw(self, t: &[u8], out: &mut [u8], start: usize) -> Replied
+        requires { ⌜ Manned self ⌝ }
+        requires { ⌜ length (now t) ≤ 400 ⌝ }
+        requires { ⌜ start + 80 * (length (now t) + 3) ≤ length (now out) ⌝ }
+        ensures { λ r. ⌜ Replies (80 * (length (now (t .entry)) + 3)) (rawOf (bytesIn (now (t .entry))) self) start (now (out .entry)) r (now (out .exit)) ⌝ }
+    {
+        let mut s = self;
+        let mut at = start;
+        let mut i = 0;
+        let mut next = 1;
+        while next < t.len() {
+            let b = hex::byte(t[i], t[next]);
+            let heard = s.hear(b, start == at, out, at);
+            s = heard.station;
+            at = heard.end;
+            i += 3;
+            next += 3;
+        }
+        let end = printing::close(start == at, out, at);
+        Replied { station: s, end }
+    }
+
+    // A line of other form.
+    fn wrong(self, out: &mut [u8], at: usize) -> Replied
+        requires { ⌜ Manned self ⌝ }
+        requires { ⌜ at + 2 ≤ length (now out) ⌝ }
+        ensures { λ r. ⌜ Replies 2 (didOf Asked.Wrong [] self) at (now (out .entry)) r (now (out .exit)) ⌝ }
+    {
+        let end = printing::line(b"?", out, at);
+        Replied { station: self, end }
+    }
+
+    // A complete line.
+    pub fn answer(self, line: &[u8], out: &mut [u8], at: usize) -> Replied
+        requires { ⌜ Manned self ⌝ }
+        requires { ⌜ at + 80 * (length (now line) + 1) ≤ length (now out) ⌝ }
+        ensures { λ r. ⌜ Replies (80 * (length (now (line .entry)) + 1)) (servedOf (now (line .entry)) self) at (now (out .entry)) r (now (out .exit)) ⌝ }
+    {
+        let desk = self.desk;
+        let asked = desk::read(desk, line);
+        match asked {
+            Asked::Send => self.send(&line[2..], out, at),
+            Asked::Number(q, n) => self.number(q, n, out, at),
+            Asked::Stop => self.stop(out, at),
+            Asked::Raw => self.raw(&line[2..], out, at),
+            Asked::Wrong => self.wrong(out, at),
+        }
+    }
+}
