@@ -30,6 +30,7 @@ fn column_while(activity: Activity) -> Column
         Activity::Initialising(_) => Column::Busy,
         Activity::Moving(_) => Column::Busy,
         Activity::Delaying(_) => Column::Delaying,
+        Activity::Ejecting => Column::Busy,
         Activity::Between => Column::Busy,
     }
 }

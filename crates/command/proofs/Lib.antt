@@ -3,5 +3,7 @@ pub mod Within
 pub mod ReadBy
 pub mod Reach
 pub mod Table
+pub mod Made
 pub mod Allowed
+pub mod Letters
 pub mod Numbers

@@ -45,6 +45,7 @@ a-wrong-operand-was-read-so-far L.Slopes t read e = of-both _ read _ _ _ e
 a-wrong-operand-was-read-so-far L.Backlash t read e = of-made _ read _ _ e
 a-wrong-operand-was-read-so-far L.Compensation t read e = of-both _ read _ _ _ e
 a-wrong-operand-was-read-so-far L.Delay t read e = of-made _ read _ _ e
+a-wrong-operand-was-read-so-far L.Eject t read e = of-made _ read _ _ e
 a-wrong-operand-was-read-so-far L.Open [] read e = cc
 a-wrong-operand-was-read-so-far L.Open (b ∷ t) read e = cc
 a-wrong-operand-was-read-so-far L.Close t read e = of-made _ read _ _ e

@@ -15,7 +15,7 @@ use Rattle.operand.specs.Number.{digits, decimalsOf, followedOf, numberOf, righ
 use Rattle.command.specs.declared.Way.{Way}
 use Rattle.command.specs.declared.Way.the-variants.{To, Up, Down}
 use Rattle.command.specs.declared.Command.{Command}
-use Rattle.command.specs.declared.Command.the-variants.{Initialise, Speed, Slopes, Backlash, Compensate, Delay, Open, Close}
+use Rattle.command.specs.declared.Command.the-variants.{Initialise, Speed, Slopes, Backlash, Compensate, Delay, Eject, Open, Close}
 use Rattle.command.specs.declared.Found.{Found}
 use Rattle.command.specs.declared.Found.the-variants as F
 use Rattle.command.specs.Table.{moveBy, letterOf, allowed, takenOf, wholeOf, nanolitresOf, speedOf, inTenths, flowOf, made, both, inUnit, volumeOf, pacedOf, slopesOf, compensationOf, commandOf}
@@ -187,6 +187,13 @@ table =
     "M" reads Delay 10 ∷
     "M," refused 3 ∷
     "M30000.0" refused 3 ∷
+    "E0" reads Eject false ∷  -- E
+    "E1" reads Eject true ∷
+    "E2" refused 3 ∷
+    "E" reads Eject false ∷
+    "E01" reads Eject true ∷
+    "E," refused 3 ∷
+    "E1.0" refused 3 ∷
     "G0" reads Close 0 ∷  -- G
     "G1" reads Close 1 ∷
     "G49999" reads Close 49999 ∷

@@ -19,5 +19,6 @@ Allowed (C.Slopes up down) = Between (rangeOf Q.Slope) up × Between (rangeOf Q.
 Allowed (C.Backlash n) = Between (rangeOf Q.Backlash) n
 Allowed (C.Compensate b down) = Between (rangeOf Q.Compensation) b
 Allowed (C.Delay n) = Between (rangeOf Q.Delay) n
+Allowed (C.Eject bare) = Unit {0}
 Allowed C.Open = Unit {0}
 Allowed (C.Close n) = Between (rangeOf Q.Passes) n

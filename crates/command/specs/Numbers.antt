@@ -17,8 +17,11 @@ refusalNumber R.Report = 3
 refusalNumber R.Loops = 3
 refusalNumber R.StartAboveTop = 3  -- 02, W-205
 refusalNumber R.Outside = 3
--- "A, P or D taken while not initialised"
+-- "A, P or D taken while not initialised"; 02, W-203: "7 for E1 uninitialised"
 refusalNumber R.NotInitialised = 7
+-- 02, W-203: "8 for a failed eject"; "10 for E0 without a tip"
+refusalNumber R.StillThere = 8
+refusalNumber R.NoTip = 10
 -- "R or X with nothing to run"
 refusalNumber R.NothingToRun = 14
 -- "data or text too long, or busy"
@@ -43,6 +46,8 @@ refusalColumn R.Loops = 0
 refusalColumn R.StartAboveTop = 0
 refusalColumn R.Outside = 0
 refusalColumn R.NotInitialised = 0
+refusalColumn R.StillThere = 0
+refusalColumn R.NoTip = 0
 refusalColumn R.NothingToRun = 0
 refusalColumn R.TooLong = 0
 refusalColumn R.Busy = 0

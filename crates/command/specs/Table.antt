@@ -34,6 +34,10 @@ moveBy way micro n = C.Move way (record { amount = n; micro = micro })
 abbrev pub compensateBy : ℕ → ℕ → Command
 compensateBy b way = C.Compensate b (eqb way 1)
 
+-- 02, W-203: "E takes 0 or 1 (default 0)"
+abbrev pub ejectBy : ℕ → Command
+ejectBy n = C.Eject (eqb n 1)
+
 -- "Any character that belongs to no operand text counts as a letter here"; those outside the table are `Other`
 unfoldable pub letterOf : ℕ → Letter
 letterOf b =
@@ -48,6 +52,7 @@ letterOf b =
     else if eqb b 75 then L.Backlash  -- K
     else if eqb b 98 then L.Compensation  -- b
     else if eqb b 77 then L.Delay  -- M
+    else if eqb b 69 then L.Eject  -- E
     else if eqb b 103 then L.Open  -- g
     else if eqb b 71 then L.Close  -- G
     else L.Other
@@ -133,6 +138,7 @@ commandOf L.Slopes t = slopesOf (pairOf t)
 commandOf L.Backlash t = oneOf C.Backlash Q.Backlash (singleOf t)
 commandOf L.Compensation t = compensationOf (pairOf t)
 commandOf L.Delay t = oneOf C.Delay Q.Delay (singleOf t)
+commandOf L.Eject t = oneOf ejectBy Q.Choice (singleOf t)
 commandOf L.Open [] = Made C.Open
 commandOf L.Open (b ∷ t) = WrongOperand 0  -- "An operand on g is 3."
 commandOf L.Close t = oneOf C.Close Q.Passes (singleOf t)
@@ -147,6 +153,7 @@ readBy L.Slopes t = readInTwo t
 readBy L.Backlash t = readIn t
 readBy L.Compensation t = readInTwo t
 readBy L.Delay t = readIn t
+readBy L.Eject t = readIn t
 readBy L.Open t = 0
 readBy L.Close t = readIn t
 readBy L.Other t = 0

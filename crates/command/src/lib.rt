@@ -13,7 +13,7 @@ use settings::Volume;
 use settings::units;
 ghost use mathlib.Core.Path.{_≡_};
 ghost use Prim.Native.Nat.{_+_, _-_, _^_, _≤_};
-ghost use Rattle.command.specs.Table.{letterOf, rangedOf, allowed, takenOf, wholeOf, nanolitresOf, speedOf, inTenths, flowOf, made, oneOf, moveBy, volumeOf, pacedOf, slopesOf, compensationOf, commandOf};
+ghost use Rattle.command.specs.Table.{letterOf, rangedOf, allowed, takenOf, wholeOf, nanolitresOf, speedOf, inTenths, flowOf, made, oneOf, ejectBy, moveBy, volumeOf, pacedOf, slopesOf, compensationOf, commandOf};
 ghost use Rattle.command.specs.Command.{placed, commandAt};
 
 // A, P and D: to a place, up from here, down from here.
@@ -37,6 +37,8 @@ pub enum Command {
     Compensate(u16, bool),
     // M: milliseconds.
     Delay(u32),
+    // E, and whether it does without a tip.
+    Eject(bool),
     // g.
     Open,
     // G: passes, 0 for endless.
@@ -59,6 +61,7 @@ pub enum Letter {
     Backlash,
     Compensation,
     Delay,
+    Eject,
     Open,
     Close,
     Other,
@@ -93,6 +96,7 @@ fn letter_of(b: u8) -> Letter
         b'K' => Letter::Backlash,
         b'b' => Letter::Compensation,
         b'M' => Letter::Delay,
+        b'E' => Letter::Eject,
         b'g' => Letter::Open,
         b'G' => Letter::Close,
         _ => Letter::Other,
@@ -325,6 +329,18 @@ fn delay(only: Single) -> Formed
     }
 }
 
+// E.
+fn eject(only: Single) -> Formed
+    ensures { λ r. ⌜ r ≡ oneOf ejectBy Quantity.Choice only ⌝ }
+{
+    let n = only.number;
+    let read = only.read;
+    match whole(Quantity::Choice, n) {
+        Taken::Good(which) => Formed::Made(Command::Eject(which == 1)),
+        Taken::Bad => Formed::WrongOperand(read),
+    }
+}
+
 // G.
 fn close(only: Single) -> Formed
     ensures { λ r. ⌜ r ≡ oneOf Command.Close Quantity.Passes only ⌝ }
@@ -359,6 +375,7 @@ fn form(letter: Letter, t: &[u8]) -> Formed
         Letter::Backlash => backlash(operand::only(t)),
         Letter::Compensation => compensation(operand::two(t)),
         Letter::Delay => delay(operand::only(t)),
+        Letter::Eject => eject(operand::only(t)),
         Letter::Open => opened(t),
         Letter::Close => close(operand::only(t)),
         Letter::Other => Formed::NoLetter,

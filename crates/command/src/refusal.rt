@@ -21,6 +21,10 @@ pub enum Refusal {
     // A goal outside travel.
     Outside,
     NotInitialised,
+    // E, and the tip is still there.
+    StillThere,
+    // E0 without a tip.
+    NoTip,
     NothingToRun,
     // Data or text.
     TooLong,
@@ -76,6 +80,8 @@ impl Refusal {
             Refusal::StartAboveTop => 3,
             Refusal::Outside => 3,
             Refusal::NotInitialised => 7,
+            Refusal::StillThere => 8,
+            Refusal::NoTip => 10,
             Refusal::NothingToRun => 14,
             Refusal::TooLong => 15,
             Refusal::Busy => 15,
@@ -93,6 +99,8 @@ impl Refusal {
             Refusal::StartAboveTop => 0,
             Refusal::Outside => 0,
             Refusal::NotInitialised => 0,
+            Refusal::StillThere => 0,
+            Refusal::NoTip => 0,
             Refusal::NothingToRun => 0,
             Refusal::TooLong => 0,
             Refusal::Busy => 0,

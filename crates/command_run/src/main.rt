@@ -63,6 +63,14 @@ fn compensate(by: u16, down: bool) {
     say(b" up");
 }
 
+fn eject(bare: bool) {
+    if bare {
+        say(b"eject, with a tip or without");
+        return;
+    }
+    say(b"eject the tip");
+}
+
 fn command(c: Command) {
     match c {
         Command::Initialise(speed) => counted(
@@ -82,6 +90,7 @@ fn command(c: Command) {
         Command::Backlash(n) => counted(b"backlash ", n, b""),
         Command::Compensate(by, down) => compensate(by, down),
         Command::Delay(ms) => counted(b"delay ", ms, b" ms"),
+        Command::Eject(bare) => eject(bare),
         Command::Open => say(b"open a loop"),
         Command::Close(passes) => counted(b"close a loop of ", passes, b" passes"),
     }

@@ -1,5 +1,6 @@
 -- The second demand of `specs/Demands`, proved: contracts that are met, each of which promises what the next call asks, make agreement over any calls; and so every program that meets them plays every script as the definition does.
 use mathlib.Core.Path.{_≡_, refl, ap, subst, _∙_}
+use mathlib.Core.Bool.{false}
 use mathlib.Core.List.{List, [], _∷_, _++_}
 use Rattle.pipettor.specs.declared.address.Address.{Address}
 use Rattle.pipettor.specs.declared.address.Address.the-variants.{One}
@@ -11,7 +12,7 @@ use Rattle.demands.specs.Calls.{lent, Call, byte, listen, tick, stop, ad
 use Rattle.demands.specs.Contracts.{Program, Made, makes, Meets, TakesAll, leftBy, answeredBy}
 use Rattle.demands.specs.Frames.{frameAfter}
 use Rattle.demands.specs.Demands.{Agrees, Agreement}
-use Rattle.demands.specs.Script.{Line, _answers_, _ticks_exact_, _run-uses_, lastOf, definition, program, callsOf, seen, wrongIn, wrongOf, TakesScript, TakesScripts}
+use Rattle.demands.specs.Script.{Line, _answers_, _ticks_exact_, _run-uses_, _ticks-with_ask_, sensing, lastOf, definition, program, callsOf, seen, wrongIn, wrongOf, TakesScript, TakesScripts}
 use Rattle.demands.proofs.Examples.{impostors, computed}
 use Rattle.demands.proofs.Frames.{a-controller-hears}
 use Rattle.demands.proofs.Exchanges.{an-agreeing-program-exchanges}
@@ -24,20 +25,20 @@ module _ (p : Program) (m : Meets p) where
   call-agrees (byte b l) k h t v =
       ap (λ (r : After). record { controller = r .reply .controller; answer = said (r .reply .said) (lent (r .buffer)) }) (m .byte k b l h t v .is)
   call-agrees (listen bytes) k h t v = rw (m .listen k bytes h t .is)
-  call-agrees tick k h t v = rw (m .tick k h t v .is)
+  call-agrees (tick s) k h t v = rw (m .tick k s h t v .is)
   call-agrees stop k h t v = rw (m .stop k h t .is)
-  call-agrees (advance n) k h t v = rw (m .advance k n h t v .is)
-  call-agrees (run n) k h t v = rw (m .run k n h t v .is)
+  call-agrees (advance n s) k h t v = rw (m .advance k n s h t v .is)
+  call-agrees (run n s) k h t v = rw (m .run k n s h t v .is)
 
   -- what a contract promises is enough to call again
   call-again : (c : Call) (k : Controller) → p .Holds k → p .Takes c → Valid k → Valid (makes p c k .controller)
   unfolding makes
   call-again (byte b l) k h t v = m .byte k b l h t v .again
   call-again (listen bytes) k h t v = m .listen k bytes h t .again v
-  call-again tick k h t v = m .tick k h t v .again
+  call-again (tick s) k h t v = m .tick k s h t v .again
   call-again stop k h t v = m .stop k h t .again v
-  call-again (advance n) k h t v = m .advance k n h t v .again
-  call-again (run n) k h t v = m .run k n h t v .again
+  call-again (advance n s) k h t v = m .advance k n s h t v .again
+  call-again (run n s) k h t v = m .run k n s h t v .again
 
   calls-agree : (cs : List Call) (k : Controller) → p .Holds k → TakesAll p cs → Valid k → (leftBy p cs k ≡ afterOf cs k) × (answeredBy p cs k ≡ answersOf cs k) × (p .Holds (afterOf cs k)) × Valid (afterOf cs k)
   unfolding leftBy answeredBy afterOf answersOf
@@ -78,8 +79,9 @@ module _ (p : Program) (m : Meets p) where
   seen-alike calls (text answers reply) t = ap lastOf (every-program-agrees p m One (calls ++ callsOf (text answers reply)) t .answered)
   seen-alike calls (n ticks place exact millionths) t =
       ap (λ (k : Controller). k .device .core .body .plunger ∷ k .device .core .body .exact ∷ [])
-      (every-program-agrees p m One (calls ++ advance n ∷ []) t .controller)
-  seen-alike calls (n run-uses count) t = ap lastOf (every-program-agrees p m One (calls ++ run n ∷ []) t .answered)
+      (every-program-agrees p m One (calls ++ advance n (sensing false) ∷ []) t .controller)
+  seen-alike calls (n run-uses count) t = ap lastOf (every-program-agrees p m One (calls ++ run n (sensing false) ∷ []) t .answered)
+  seen-alike calls (n ticks-with tip ask asked) t = ap lastOf (every-program-agrees p m One (calls ++ advance n (sensing tip) ∷ []) t .answered)
 
   wrong-alike : (calls : List Call) (ls : List Line) → TakesScript p calls ls → wrongIn (program p) calls ls ≡ wrongIn definition calls ls
   unfolding wrongIn

@@ -5,6 +5,7 @@ use mathlib.Core.List.{List}
 use Prim.Native.Nat.{ℕ}
 use contract.Lifetimes.{Lfts}
 use denote.Ref.{RefT, now}
+use Rattle.motion.specs.declared.Sense.{Sense}
 use Rattle.pipettor.specs.declared.address.Address.{Address}
 use Rattle.pipettor.specs.declared.address.Given.{Given}
 use Rattle.pipettor.specs.declared.Controller.{Controller}
@@ -44,17 +45,17 @@ module _ (κs : Lfts 0) where
   fresh-says a r = record { asked-is = refl; ensured-is = refl }
 
   module _ (k : Controller) where
-    pub tick-says : (r : Ticked) → Says (Tick.Asked κs (k, tt)) (Valid k) (Tick.Learnt κs (k, tt) r (k, tt)) (TickEnsures k r)
-    tick-says r = record { asked-is = refl; ensured-is = refl }
+    pub tick-says : (s : Sense) (r : Ticked) → Says (Tick.Asked κs (k, (s, tt))) (Valid k) (Tick.Learnt κs (k, (s, tt)) r (k, (s, tt))) (TickEnsures k s r)
+    tick-says s r = record { asked-is = refl; ensured-is = refl }
 
     pub stop-says : (r : Controller) → Says (Stop.Asked κs (k, tt)) (Unit {0}) (Stop.Learnt κs (k, tt) r (k, tt)) (StopEnsures k r)
     stop-says r = record { asked-is = refl; ensured-is = refl }
 
-    pub advance-says : (n : ℕ) (r : Ticked) → Says (Advance.Asked κs (k, (n, tt))) (Valid k) (Advance.Learnt κs (k, (n, tt)) r (k, (n, tt))) (AdvanceEnsures k n r)
-    advance-says n r = record { asked-is = refl; ensured-is = refl }
+    pub advance-says : (n : ℕ) (s : Sense) (r : Ticked) → Says (Advance.Asked κs (k, (n, (s, tt)))) (Valid k) (Advance.Learnt κs (k, (n, (s, tt))) r (k, (n, (s, tt)))) (AdvanceEnsures k n s r)
+    advance-says n s r = record { asked-is = refl; ensured-is = refl }
 
-    pub run-says : (n : ℕ) (r : Ran) → Says (Run.Asked κs (k, (n, tt))) (Valid k) (Run.Learnt κs (k, (n, tt)) r (k, (n, tt))) (RunEnsures k n r)
-    run-says n r = record { asked-is = refl; ensured-is = refl }
+    pub run-says : (n : ℕ) (s : Sense) (r : Ran) → Says (Run.Asked κs (k, (n, (s, tt)))) (Valid k) (Run.Learnt κs (k, (n, (s, tt))) r (k, (n, (s, tt)))) (RunEnsures k n s r)
+    run-says n s r = record { asked-is = refl; ensured-is = refl }
 
     pub ready-says : (r : Bool) → Says (Ready.Asked κs (k, tt)) (Unit {0}) (Ready.Learnt κs (k, tt) r (k, tt)) (ReadyEnsures k r)
     ready-says r = record { asked-is = refl; ensured-is = refl }
@@ -81,10 +82,10 @@ defined =
       fresh = λ a. madeOf a .next;
       byte = λ k b l. (let r = byteOf k b (l .buffer) .next in record { reply = r .reply; left = record { buffer = r .buffer } });
       listen = listenedOf;
-      tick = λ k. tickedOf k .next;
+      tick = λ k s. tickedOf s k .next;
       stop = λ k. stoppedOf k .next;
-      advance = λ k n. advancedOf n k;
-      run = λ k n. runOf n k;
+      advance = λ k n s. advancedOf n s k;
+      run = λ k n s. runOf n s k;
       ready = readyIs;
     }
 
@@ -92,10 +93,10 @@ stays-sized : (c : Call) (k : Controller) → Sized k → Valid k → Sized (mak
 unfolding makes callOf
 stays-sized (byte b l) k s v = call-keeps-sized (byte b l) k s v
 stays-sized (listen bytes) k s v = call-keeps-sized (listen bytes) k s v
-stays-sized tick k s v = call-keeps-sized tick k s v
+stays-sized (tick x) k s v = call-keeps-sized (tick x) k s v
 stays-sized stop k s v = call-keeps-sized stop k s v
-stays-sized (advance n) k s v = call-keeps-sized (advance n) k s v
-stays-sized (run n) k s v = call-keeps-sized (run n) k s v
+stays-sized (advance n x) k s v = call-keeps-sized (advance n x) k s v
+stays-sized (run n x) k s v = call-keeps-sized (run n x) k s v
 
 pub the-contracts-can-be-met : Meets defined
 the-contracts-can-be-met =
@@ -104,10 +105,10 @@ the-contracts-can-be-met =
       fresh = λ a. record { is = refl; again = made-is-valid a };
       byte = λ k b l s t v. record { is = refl; again = byte-keeps k b (l .buffer) (s .text) v };
       listen = λ k bytes s t. record { is = refl; again = listen-keeps-valid k bytes };
-      tick = λ k s t v. record { is = refl; again = tick-keeps k v };
+      tick = λ k x s t v. record { is = refl; again = tick-keeps k v x };
       stop = λ k s t. record { is = refl; again = stop-keeps-valid k };
-      advance = λ k n s t v. record { is = refl; again = advance-keeps k v n };
-      run = λ k n s t v. record { is = refl; again = run-keeps k v n };
+      advance = λ k n x s t v. record { is = refl; again = advance-keeps k v n x };
+      run = λ k n x s t v. record { is = refl; again = run-keeps k v n x };
       ready = λ k s. refl;
       fresh-held = made-is-sized;
       held = λ c k s t v. stays-sized c k s v;

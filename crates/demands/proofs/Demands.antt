@@ -1,7 +1,7 @@
 -- The demands 1 and 3 of `specs/Demands`, proved; `proofs/Agreement` proves the second.
-use mathlib.Core.Path.{_≡_, refl, ap, _∙_}
+use mathlib.Core.Path.{_≡_, refl, sym, ap, _∙_}
 use mathlib.Core.List.{List}
-use mathlib.Core.Bool.{Bool}
+use mathlib.Core.Bool.{Bool, true, false}
 use Prim.Native.Nat.{ℕ, _+_, _-_, _≤_}
 use native.Mathlib.Omega.{arith}
 use borrow.Author.Tests.{lt-ltb, le-ltb, ltb-false}
@@ -12,18 +12,29 @@ use Rattle.basics.specs.Lay.{over}
 use Rattle.basics.specs.Exactly.{Exactly}
 use Rattle.basics.proofs.Choice.{by}
 use Rattle.basics.proofs.Over.{length-over}
+use Rattle.command.specs.declared.refusal.Refusal.{Refusal}
+use Rattle.command.specs.declared.refusal.Refusal.the-variants as R
+use Rattle.command.specs.declared.refusal.Verdict.{Verdict}
+use Rattle.command.specs.declared.refusal.Verdict.the-variants.{Fine, Refused}
+use Rattle.command.specs.declared.Command.the-variants as C
+use Rattle.command.specs.Numbers.{refusalNumber, verdictNumber}
 use Rattle.line.specs.Answer.{statusOf, answerOf}
 use Rattle.line.proofs.Answers.{answer-fits}
+use Rattle.motion.specs.declared.Sense.{Sense}
 use Rattle.motion.specs.Events.{Turn}
+use Rattle.motion.specs.declared.Activity.the-variants.{Ejecting}
+use Rattle.buffer.specs.declared.course.State.the-variants.{Running}
 use Rattle.machine.specs.Step.{around, fine}
 use Rattle.machine.specs.Run.{usedOf}
 use Rattle.machine.specs.Device.{tickOf, haltedOf, advanceOf, ranOf}
 use Rattle.machine.specs.declared.Used.{Used}
 use Rattle.machine.specs.declared.Used.the-variants.{Ticks, S3}
 use Rattle.machine.specs.History.{IsSum}
+use Rattle.machine.specs.OnCourse.{OnCourse, uninitialised, steep, outside, tipless, unready, still-there, taken, judged}
 use Rattle.machine.proofs.Runs.{count-within, not-ready-before, ready-after}
 use Rattle.machine.proofs.Position.{at-rest}
-use Rattle.machine.proofs.Failures.{a-run-meets-a-command, a-run-fails-by-7-or-3-only, a-command-that-must-fail-fails}
+use Rattle.machine.proofs.Failures.{a-run-meets-a-command, a-run-fails-for-a-cause, where-there-is-a-cause-the-run-fails, a-run-fails-exactly-for-a-cause}
+use Rattle.machine.proofs.Tips.{the-host-is-asked-for-each-E-taken-and-not-refused, ticks-ask-where-one-does, without-an-E-no-tick-asks}
 use Rattle.machine.proofs.Homing.{a-cut-W-leaves-the-plunger-uninitialised}
 use Rattle.pipettor.specs.declared.address.Address.{Address}
 use Rattle.pipettor.specs.declared.address.Address.the-variants.{One, Two, Three, Four, Five, Six, Seven, Eight, Nine}
@@ -39,10 +50,12 @@ use Rattle.pipettor.specs.Byte.{After, saidOf, writtenOf, dealtOf, heardOf, byt
 use Rattle.pipettor.specs.Controller.{tickedOf, stoppedOf, advancedOf, runOf}
 use Rattle.frames.proofs.Calls.{a-short-buffer-is-s1, s1-changes-nothing, an-address-outside-1-to-9-is-s2, more-than-60000-ticks-are-s3}
 use Rattle.frames.proofs.Columns.{the-stop-leaves-the-column}
+use Rattle.frames.proofs.Tips.{no-byte-changes-the-tip, a-tick-brings-the-tip-sensed, the-stop-leaves-the-tip}
+use Rattle.frames.proofs.Reports.{q31-tells-the-tip}
 use Rattle.frames.proofs.Ticks.{a-tick-leaves-the-column-unless-the-run-fails, an-error-in-a-run-has-no-column}
 use Rattle.demands.specs.Calls.{Call, after}
 use Rattle.demands.specs.Values.{Handed, number, S, saidIs, givenIs, usedIs}
-use Rattle.demands.specs.Demands.{Counted, Written, Answers, Makes, TotalityAndRefusals, Position, Moves}
+use Rattle.demands.specs.Demands.{Counted, AsksWithin, Takes, CauseIn, Written, Answers, Makes, TotalityAndRefusals, Position, Moves}
 use Rattle.demands.proofs.Examples.{computed}
 use Rattle.demands.proofs.Frames.{a-frame-is-treated-by-the-table}
 use Rattle.demands.proofs.InHand.{every-controller-receives}
@@ -68,11 +81,11 @@ a-byte-writes k b buf =
     (λ h. refl)
     (λ h. written-by _ _ buf (ltb-false (length buf) 32 h))
 
-module _ (k : Controller) (n : ℕ) where
-  a-run-is-counted : n ≤ 60000 → Counted n k (usedOf n (around (k .device .text)) (fine (k .device .core)))
+module _ (k : Controller) (n : ℕ) (sense : Sense) where
+  a-run-is-counted : n ≤ 60000 → Counted n sense k (usedOf n (around (k .device .text) sense) (fine (k .device .core)))
   unfolding runOf ranOf advancedOf advanceOf
   a-run-is-counted h =
-      let w = around (k .device .text) in
+      let w = around (k .device .text) sense in
       let s = fine (k .device .core) in
       record {
         run = rw (le-ltb 60000 n h);
@@ -98,8 +111,57 @@ only-s3 : (r : Used) → usedIs r ≡ S 3 → r ≡ S3
 only-s3 (Ticks n) e = let z : _≡_ {A = ℕ} 0 1 = cc in absurd (omega arith)
 only-s3 S3 e = refl
 
+-- a run that fails with a number has a cause of that number
+module _ (k : Controller) (s : Sense) (o : OnCourse (k .device)) where
+  abbrev failed : Verdict
+  failed = tickedOf s k .next .news .failed
+
+  causes : {A : Type 0} (n : ℕ) → (n ≡ 0 → ⊥) → ((why : Refusal) → CauseIn s k why → refusalNumber why ≡ n → A) → verdictNumber failed ≡ n → A
+  unfolding tickedOf tickOf
+  causes {A} n some f e = go failed refl e
+    where
+      go : (v : Verdict) → failed ≡ v → verdictNumber v ≡ n → A
+      go Fine h q = absurd (some (sym q))
+      go (Refused why) h q = f why (a-run-fails-exactly-for-a-cause (k .device .text) s (k .device .core) why o .only h) q
+
+  numbered : (why : Refusal) → CauseIn s k why → verdictNumber failed ≡ refusalNumber why
+  unfolding tickedOf tickOf
+  numbered why cause = ap verdictNumber (a-run-fails-exactly-for-a-cause (k .device .text) s (k .device .core) why o .always cause)
+
+  ten : Exactly (verdictNumber failed ≡ 10) (Takes k (C.Eject false) × (s .tip ≡ false))
+  ten = record { only = causes 10 (λ e. omega arith) from; always = λ h. numbered R.NoTip (taken (C.Eject false) (h .0) (tipless refl (h .1))) }
+    where
+      from : (why : Refusal) → CauseIn s k why → refusalNumber why ≡ 10 → Takes k (C.Eject false) × (s .tip ≡ false)
+      from why (taken c t (uninitialised way v e i)) q = absurd (omega arith)
+      from why (taken c t (steep way v e i h)) q = absurd (omega arith)
+      from why (taken c t (outside way v e i flat out)) q = absurd (omega arith)
+      from why (taken c t (tipless e none)) q = (rw e at t, none)
+      from why (taken c t (unready e i)) q = absurd (omega arith)
+      from why (judged a is (still-there h)) q = absurd (omega arith)
+
+  eight : Exactly (verdictNumber failed ≡ 8) ((k .device .core .course .state ≡ Running Ejecting) × (s .tip ≡ true))
+  eight = record { only = causes 8 (λ e. omega arith) from; always = λ h. numbered R.StillThere (judged Ejecting (h .0) (still-there (h .1))) }
+    where
+      from : (why : Refusal) → CauseIn s k why → refusalNumber why ≡ 8 → (k .device .core .course .state ≡ Running Ejecting) × (s .tip ≡ true)
+      from why (taken c t (uninitialised way v e i)) q = absurd (omega arith)
+      from why (taken c t (steep way v e i h)) q = absurd (omega arith)
+      from why (taken c t (outside way v e i flat out)) q = absurd (omega arith)
+      from why (taken c t (tipless e none)) q = absurd (omega arith)
+      from why (taken c t (unready e i)) q = absurd (omega arith)
+      from why (judged a is (still-there h)) q = (is, h)
+
+-- many ticks ask where one does
+asks-within : (k : Controller) (n : ℕ) (s : Sense) → Exactly (advancedOf n s k .news .eject ≡ true) (AsksWithin n s k)
+unfolding advancedOf advanceOf tickedOf tickOf
+asks-within k n s =
+    let e = ticks-ask-where-one-does n (around (k .device .text) s) (k .device .core) in
+    record {
+      only = λ h. (let a = e .only h in record { tick = a .tick; before = a .before; asks = a .asks });
+      always = λ a. e .always (record { tick = a .tick; before = a .before; asks = a .asks });
+    }
+
 every-controller-answers : (a : Address) (calls : List Call) → Answers (after a calls)
-unfolding runOf ranOf tickedOf tickOf stoppedOf haltedOf
+unfolding runOf ranOf tickedOf tickOf stoppedOf haltedOf advancedOf advanceOf
 every-controller-answers a calls =
     let k = after a calls in
     let sound = every-controller-is-sound a calls in
@@ -109,14 +171,24 @@ every-controller-answers a calls =
       S1-changes-nothing = s1-changes-nothing k;
       a-byte-writes-its-answer-only = a-byte-writes k;
       a-frame-is-treated-by-the-table = λ ds buf good long. a-frame-is-treated-by-the-table k (sound .sized .frame) buf long ds good;
-      a-long-run-is-S3 = λ n. on-paper usedIs _ S3 3 (only-s3 _) refl (more-than-60000-ticks-are-s3 n k);
-      S3-changes-nothing = λ n h. rw (lt-ltb 60000 n h);
-      a-run-counts-its-ticks = λ n h. (usedOf n (around (k .device .text)) (fine (k .device .core)), a-run-is-counted k n h);
+      a-long-run-is-S3 = λ n s. on-paper usedIs _ S3 3 (only-s3 _) refl (more-than-60000-ticks-are-s3 n s k);
+      S3-changes-nothing = λ n s h. rw (lt-ltb 60000 n h);
+      a-run-counts-its-ticks = λ n s h. (usedOf n (around (k .device .text) s) (fine (k .device .core)), a-run-is-counted k n s h);
       a-run-meets-a-command = λ is. a-run-meets-a-command (k .device .text) (k .device .core .course) is (sound .on-course);
-      a-run-fails-by-7-or-3 = λ doing is empty. a-run-fails-by-7-or-3-only (k .device .text) (k .device .core) doing is (sound .on-course) empty;
-      a-command-that-must-fail-fails = λ command next why is found must. rw (a-command-that-must-fail-fails (k .device .text) (k .device .core) command next why is found must);
-      an-error-in-a-run-has-no-column = an-error-in-a-run-has-no-column k;
-      any-other-tick-leaves-the-column = a-tick-leaves-the-column-unless-the-run-fails k;
+      a-run-fails-for-a-cause = λ s doing is empty. a-run-fails-for-a-cause (k .device .text) s (k .device .core) doing is (sound .on-course) empty;
+      a-run-fails-exactly-for-a-cause = λ s why. a-run-fails-exactly-for-a-cause (k .device .text) s (k .device .core) why (sound .on-course);
+      ten-is-an-E0-without-a-tip = λ s. ten k s (sound .on-course);
+      eight-is-a-tip-still-there = λ s. eight k s (sound .on-course);
+      a-run-that-fails-leaves = λ s why cause. rw (where-there-is-a-cause-the-run-fails (k .device .text) s (k .device .core) why cause);
+      the-host-is-asked-once-for-each-E = λ s. the-host-is-asked-for-each-E-taken-and-not-refused (k .device .text) s (k .device .core);
+      ticks-ask-where-one-does = λ n s. asks-within k n s;
+      without-an-E-nothing-asks = λ n s none. without-an-E-no-tick-asks (k .device .text) s n (fine (k .device .core)) refl none;
+      a-tick-brings-the-tip-sensed = λ s. a-tick-brings-the-tip-sensed s k;
+      no-byte-changes-the-tip = λ b buf. no-byte-changes-the-tip k b buf;
+      the-stop-leaves-the-tip = the-stop-leaves-the-tip k;
+      q31-tells-the-tip = q31-tells-the-tip (k .address) (k .device);
+      an-error-in-a-run-has-no-column = λ s. an-error-in-a-run-has-no-column s k;
+      any-other-tick-leaves-the-column = λ s. a-tick-leaves-the-column-unless-the-run-fails s k;
       the-stop-leaves-the-column = the-stop-leaves-the-column k;
       a-cut-W-leaves-it-uninitialised = λ t is. a-cut-W-leaves-the-plunger-uninitialised t (k .device .core) is (sound .homes);
     }

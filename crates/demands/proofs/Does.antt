@@ -25,6 +25,7 @@ use Rattle.text.proofs.Strings.{a-text-stands-in-front}
 use Rattle.line.specs.declared.Deed.{Deed}
 use Rattle.line.specs.declared.Deed.the-variants as W
 use Rattle.line.specs.Wire.{hearOf, keepOf}
+use Rattle.motion.specs.declared.Sense.{Sense}
 use Rattle.motion.specs.Events.{Turn, quiet}
 use Rattle.machine.specs.declared.Device.{Device}
 use Rattle.machine.specs.declared.Ran.{Ran}
@@ -47,9 +48,9 @@ use Rattle.demands.specs.Calls.{Call, ticksEvents, ticksUsed, callOf}
 -- what a call does to a device
 pub data Does (d : Device) : Turn Device → Type 0 where
   none : Does d (quiet d)
-  new-error : (why : Refusal) → Does d (quiet (device (d .text) (coreError (refusalNumber why) (refusalColumn why) (d .core))))
+  new-error : (why : Refusal) → Does d (quiet (device (d .text) (d .tip) (coreError (refusalNumber why) (refusalColumn why) (d .core))))
   call : (k : Machine.Call) → SentBy k → Does d (Machine.callOf k d)
-  ticks : (n : ℕ) → Does d (record { next = advanceOf n d .device; events = ticksEvents n d })
+  ticks : (n : ℕ) (s : Sense) → Does d (record { next = advanceOf n s d .device; events = ticksEvents n s d })
 
 -- a text that stands in front of data reads, and isn't empty
 reading-of : (t : List ℕ) (r : Reading) → readOf t ≡ r → verdict r ≡ Fine → (steps : List Step) × (readOf t ≡ reads steps)
@@ -163,10 +164,10 @@ every-call-does (Calls.byte b l) k =
     (λ h. none)
     (λ h. frame-does (k .device) g (take (sizeOf g) (squeezedOf ours deed frame)) (got-brings ours deed frame))
 every-call-does (Calls.listen bytes) k = none
-every-call-does Calls.tick k = call Machine.tick tt
+every-call-does (Calls.tick s) k = call (Machine.tick s) tt
 every-call-does Calls.stop k = call Machine.stop tt
-every-call-does (Calls.advance n) k = ticks n
-every-call-does (Calls.run n) k =
-    by (λ (r : Ran). Does (k .device) (record { next = r .turned .device; events = ticksEvents (ticksUsed (r .used)) (k .device) })) (ltb 60000 n)
+every-call-does (Calls.advance n s) k = ticks n s
+every-call-does (Calls.run n s) k =
+    by (λ (r : Ran). Does (k .device) (record { next = r .turned .device; events = ticksEvents (ticksUsed (r .used)) s (k .device) })) (ltb 60000 n)
     (λ h. none)
-    (λ h. ticks (usedOf n (around (k .device .text)) (fine (k .device .core))))
+    (λ h. ticks (usedOf n (around (k .device .text) s) (fine (k .device .core))) s)

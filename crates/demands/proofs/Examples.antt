@@ -1,5 +1,6 @@
 -- Computed by the checker: 01's checked examples, those with ● and some more, the errors that a class makes, what no impostor plays, and calls that move the plunger. Every script is played from making, byte by byte and tick by tick.
 use mathlib.Core.Path.{_≡_, refl}
+use mathlib.Core.Bool.{true, false}
 use mathlib.Core.List.{List, [], _∷_, _++_}
 use borrow.Author.Tests.{leb-true}
 use Rattle.basics.specs.Bytes as BasicsBytes
@@ -31,7 +32,7 @@ use Rattle.pipettor.specs.declared.address.Address.the-variants.{One}
 use Rattle.demands.specs.Calls as Calls
 use Rattle.demands.specs.Calls.{Call, advance, after}
 use Rattle.demands.specs.Demands.{Moves}
-use Rattle.demands.specs.Script.{Line, _answers_, _ticks_exact_, _run-uses_, definition, callsOf, seen, wrongIn, wrongOf}
+use Rattle.demands.specs.Script.{Line, _answers_, _ticks_exact_, _run-uses_, _ticks-with_ask_, sensing, definition, callsOf, seen, wrongIn, wrongOf}
 
 abbrev pub examples : List (List Line)
 examples =
@@ -79,6 +80,14 @@ examples =
     ∷ ("b350K7L5,6c400v150V200R" answers "@" ∷ 6 ticks 0 exact 0 ∷ "?4" answers "`7" ∷ "?6" answers "`150.0" ∷ "?7" answers "`200.0" ∷ "?8" answers "`400.0" ∷ "?9" answers "`5" ∷ "?10" answers "`6" ∷ "WA1,1R" answers "@" ∷ 21 ticks 38 exact 40350000 ∷ 1 ticks 40 exact 40350000 ∷ "M14b100,1A1,1R" answers "@" ∷ 4 ticks 40 exact 39900000 ∷ "WA5R" answers "@" ∷ 3 ticks 0 exact 5000000 ∷ "Q" answers "@" ∷ [])
     -- 02, W-213: "3 in the loop check"; what was stored stays
     ∷ ("WA5" answers "`" ∷ "G3R" answers "c" ∷ "?67" answers "c1" ∷ "R" answers "@" ∷ 3 ticks 5 exact 5000000 ∷ [])
+    -- 02, W-203, "Tips": E0 with a tip asks, and ends in the next tick without one; a tip still there is 8; without one E0 is 10
+    ∷ ("ER" answers "@" ∷ 1 ticks-with true ask true ∷ "?31" answers "@1" ∷ "X" answers "O" ∷ 1 ticks-with false ask false ∷ "Q" answers "o" ∷ "?31" answers "o0" ∷ [])
+    ∷ ("EM100R" answers "@" ∷ 1 ticks-with true ask true ∷ 1 ticks-with true ask false ∷ "Q" answers "h" ∷ "?67" answers "h0" ∷ "?31" answers "h1" ∷ [])
+    ∷ ("E0R" answers "@" ∷ 1 ticks-with false ask false ∷ "Q" answers "j" ∷ "E,1R" answers "c" ∷ "E2" answers "c" ∷ [])
+    -- E1 asks for no tip, but for W; "T between them leaves it unjudged"
+    ∷ ("E1R" answers "@" ∷ 1 ticks-with true ask false ∷ "Q" answers "g" ∷ "WE1A5R" answers "@" ∷ 2 ticks-with true ask true ∷ "T" answers "`" ∷ "R" answers "@" ∷ 2 ticks-with true ask false ∷ "?1" answers "`5" ∷ "!R" answers "`" ∷ "?31" answers "`1" ∷ [])
+    -- a run and many ticks say whether any of them asked
+    ∷ ("WA100E1A0R" answers "@" ∷ 60 ticks-with false ask true ∷ "Q" answers "`" ∷ "X" answers "@" ∷ 2 ticks-with false ask false ∷ [])
     ∷ []
 
 -- 01, "Errors a class makes, and so may a program"
@@ -110,8 +119,8 @@ impostors =
 -- W, b, A, P, D, T in a delay, a movement that is cut, and a reset
 abbrev moved : List Call
 moved =
-    callsOf ("Wb350A10P0.5,1D0.2,1M1000R" answers "@") ++ advance 20 ∷ callsOf ("T" answers "`") ++
-    callsOf ("A44000R" answers "@") ++ advance 3 ∷ callsOf ("T" answers "`") ++ callsOf ("!R" answers "`")
+    callsOf ("Wb350A10P0.5,1D0.2,1M1000R" answers "@") ++ advance 20 (sensing false) ∷ callsOf ("T" answers "`") ++
+    callsOf ("A44000R" answers "@") ++ advance 3 (sensing false) ∷ callsOf ("T" answers "`") ++ callsOf ("!R" answers "`")
 
 pub record Computed : Type 0 where
   pub the-examples-hold : wrongOf definition examples ≡ []
@@ -121,7 +130,7 @@ pub record Computed : Type 0 where
 
 -- opened: every definition on the way of a byte or a tick, so that rows can be added freely
 pub computed : Computed
-unfolding BasicsBytes.digit BasicsBytes.every BasicsBytes.valueOf BasicsLay.over BasicsLay.fits BasicsLay.laidIn DecimalDigits.lastDigits DecimalDigits.trim DecimalDigits.digitsOf DecimalDigits.fixedOf SettingsLimits.within SettingsUnits.nearest SettingsUnits.tenthsOf SettingsUnits.flowOf SettingsUnits.ticksOf SettingsUnits.rateOf SettingsUnits.millionthsOf SettingsUnits.goalOf SettingsUnits.nanolitresOf SettingsUnits.goneOf OperandNumber.digits OperandNumber.decimalsOf OperandNumber.followedOf OperandNumber.numberOf OperandNumber.behindComma OperandNumber.pairOf OperandText.run OperandText.rest Command.placed Command.foundIn Command.commandAt CommandTable.letterOf CommandTable.allowed CommandTable.takenOf CommandTable.wholeOf CommandTable.nanolitresOf CommandTable.speedOf CommandTable.inTenths CommandTable.flowOf CommandTable.made CommandTable.both CommandTable.inUnit CommandTable.volumeOf CommandTable.pacedOf CommandTable.slopesOf CommandTable.compensationOf CommandTable.commandOf TextData.spaceless TextData.askedOf TextData.body TextData.runs TextData.stringOf TextData.controlOf TextData.dataOf TextLoops.levelOf TextLoops.levels TextLoops.loopsOk Text.readFrom Text.readOf Text.checkOf LineAnswer.statusOf LineAnswer.reportOf LineAnswer.answerOf LineWire.printable LineWire.endOf LineWire.takeOf LineWire.hearOf LineWire.keepOf Motion.plungerOf Motion.homeOf Motion.within Motion.targetOf Motion.setOut Motion.aimed Motion.moveOf Motion.delayOf Motion.waitedOf Motion.effectOf Motion.carried Motion.onwardOf Motion.cutOf Motion.resetOf Motion.freshBody BufferOrder.cellOf BufferOrder.loopsBy BufferOrder.sized BufferOrder.verdictOf BufferCourse.halted MachineAct.haltOf MachineAct.stopOf MachineAct.changedOf MachineAct.doneOf BufferOrder.laidBy BufferOrder.storedBy MachineAct.actedOf MachineAct.actOf BufferCourse.passOf BufferCourse.reached BufferCourse.openedOf BufferCourse.closedBy BufferCourse.closedOf MachineDevice.freshOf MachineDevice.tickOf MachineDevice.advanceOf MachineRun.ticksOf MachineStep.appliedOf MachineStep.takenOf MachineStep.carriedOn MachineStep.runningOf MachineStep.activeOf MachineStep.stepOf MachineStep.nextOf PipettorByte.fetchedOf PipettorByte.squeezedIn PipettorByte.gotOf PipettorByte.squeezedOf PipettorByte.taskOf PipettorByte.performedOf PipettorByte.outcomeOf PipettorByte.saidOf PipettorByte.writtenOf PipettorByte.dealtOf PipettorByte.heardOf PipettorByte.byteOf PipettorController.madeOf PipettorController.advancedOf Reports.goalIn Reports.settingOf Reports.valueOf Reports.queryOf Reports.tellOf Calls.callOf Calls.answerOf Calls.afterOf Calls.answersOf Calls.answers MachineDevice.ranOf MachineRun.usedOf PipettorController.runOf seen wrongIn wrongOf Calls.ticksEvents Calls.eventsOf Calls.after Calls.history History.callOf History.eventsOf
+unfolding BasicsBytes.digit BasicsBytes.every BasicsBytes.valueOf BasicsLay.over BasicsLay.fits BasicsLay.laidIn DecimalDigits.lastDigits DecimalDigits.trim DecimalDigits.digitsOf DecimalDigits.fixedOf SettingsLimits.within SettingsUnits.nearest SettingsUnits.tenthsOf SettingsUnits.flowOf SettingsUnits.ticksOf SettingsUnits.rateOf SettingsUnits.millionthsOf SettingsUnits.goalOf SettingsUnits.nanolitresOf SettingsUnits.goneOf OperandNumber.digits OperandNumber.decimalsOf OperandNumber.followedOf OperandNumber.numberOf OperandNumber.behindComma OperandNumber.pairOf OperandText.run OperandText.rest Command.placed Command.foundIn Command.commandAt CommandTable.letterOf CommandTable.allowed CommandTable.takenOf CommandTable.wholeOf CommandTable.nanolitresOf CommandTable.speedOf CommandTable.inTenths CommandTable.flowOf CommandTable.made CommandTable.both CommandTable.inUnit CommandTable.volumeOf CommandTable.pacedOf CommandTable.slopesOf CommandTable.compensationOf CommandTable.commandOf TextData.spaceless TextData.askedOf TextData.body TextData.runs TextData.stringOf TextData.controlOf TextData.dataOf TextLoops.levelOf TextLoops.levels TextLoops.loopsOk Text.readFrom Text.readOf Text.checkOf LineAnswer.statusOf LineAnswer.reportOf LineAnswer.answerOf LineWire.printable LineWire.endOf LineWire.takeOf LineWire.hearOf LineWire.keepOf Motion.plungerOf Motion.homeOf Motion.within Motion.targetOf Motion.setOut Motion.aimed Motion.moveOf Motion.delayOf Motion.ejectOf Motion.waitedOf Motion.ejectedOf Motion.effectOf Motion.carried Motion.onwardOf Motion.cutOf Motion.resetOf Motion.freshBody BufferOrder.cellOf BufferOrder.loopsBy BufferOrder.sized BufferOrder.verdictOf BufferCourse.halted MachineAct.haltOf MachineAct.stopOf MachineAct.changedOf MachineAct.doneOf BufferOrder.laidBy BufferOrder.storedBy MachineAct.actedOf MachineAct.actOf BufferCourse.passOf BufferCourse.reached BufferCourse.openedOf BufferCourse.closedBy BufferCourse.closedOf MachineDevice.freshOf MachineDevice.tickOf MachineDevice.advanceOf MachineRun.ticksOf MachineStep.appliedOf MachineStep.takenOf MachineStep.carriedOn MachineStep.runningOf MachineStep.activeOf MachineStep.stepOf MachineStep.nextOf PipettorByte.fetchedOf PipettorByte.squeezedIn PipettorByte.gotOf PipettorByte.squeezedOf PipettorByte.taskOf PipettorByte.performedOf PipettorByte.outcomeOf PipettorByte.saidOf PipettorByte.writtenOf PipettorByte.dealtOf PipettorByte.heardOf PipettorByte.byteOf PipettorController.madeOf PipettorController.advancedOf Reports.goalIn Reports.settingOf Reports.valueOf Reports.queryOf Reports.tellOf Calls.callOf Calls.answerOf Calls.afterOf Calls.answersOf Calls.answers MachineDevice.ranOf MachineRun.usedOf PipettorController.runOf seen wrongIn wrongOf Calls.ticksEvents Calls.eventsOf Calls.after Calls.history History.callOf History.eventsOf
 computed = record {
   the-examples-hold = refl;
   no-mistake-is-made = refl;

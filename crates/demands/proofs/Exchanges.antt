@@ -46,10 +46,10 @@ call-keeps-address : (c : Call) (k : Controller) → callOf c k .next .address �
 unfolding callOf byteOf heardOf listenedOf tickedOf stoppedOf advancedOf runOf
 call-keeps-address (byte b l) k = by (λ (t : Turn After). t .next .reply .controller .address ≡ k .address) (ltb (length (l .buffer)) 32) (λ h. refl) (λ h. refl)
 call-keeps-address (listen bytes) k = refl
-call-keeps-address tick k = refl
+call-keeps-address (tick s) k = refl
 call-keeps-address stop k = refl
-call-keeps-address (advance n) k = refl
-call-keeps-address (run n) k = refl
+call-keeps-address (advance n s) k = refl
+call-keeps-address (run n s) k = refl
 
 calls-keep-address : (cs : List Call) (k : Controller) → afterOf cs k .address ≡ k .address
 unfolding afterOf

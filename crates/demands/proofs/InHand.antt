@@ -166,10 +166,10 @@ called : (c : Call) (h : Hand) (k : Controller) → length (k .frame) ≡ 320 �
 unfolding handsOf callOf listenedOf tickedOf stoppedOf advancedOf runOf
 called (byte b l) h k n s = byte-called b (l .buffer) h k n s
 called (listen bytes) h k n s = all-heard h (receiver k) (beforeCr bytes) n s
-called tick h k n s = s
+called (tick x) h k n s = s
 called stop h k n s = s
-called (advance m) h k n s = s
-called (run m) h k n s = s
+called (advance m x) h k n s = s
+called (run m x) h k n s = s
 
 hands-append : (h : Hand) (xs ys : List ℕ) → handsOf h (xs ++ ys) ≡ handsOf (handsOf h xs) ys
 unfolding handsOf

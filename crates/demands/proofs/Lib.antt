@@ -14,3 +14,4 @@ pub mod Tight
 pub mod Records
 pub mod Parts
 pub mod OneLine
+pub mod Tips

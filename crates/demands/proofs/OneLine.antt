@@ -30,6 +30,7 @@ use Rattle.motion.specs.declared.Body.{Body}
 use Rattle.motion.specs.Events.{Turn}
 use Rattle.command.specs.declared.refusal.Verdict.{Verdict}
 use Rattle.buffer.specs.declared.course.State.{State}
+use Rattle.buffer.specs.declared.course.Course.{Course}
 use Rattle.machine.specs.declared.step.Core.{Core}
 use Rattle.machine.specs.declared.Used.{Used}
 use Rattle.machine.specs.declared.Used.the-variants as U
@@ -50,7 +51,7 @@ use Rattle.pipettor.specs.declared.Said.the-variants.{Silent, Answer, S1}
 use Rattle.pipettor.specs.Address.{letterOf, addressOf}
 use Rattle.pipettor.specs.Byte.{toldCode, toldOf, outcomeOf, saidOf, writtenOf, After, dealtOf, heardOf, byteOf}
 use Rattle.desk.specs.declared.Quantity.{Quantity}
-use Rattle.desk.specs.declared.Quantity.the-variants.{Ticks, Run, Lend, New}
+use Rattle.desk.specs.declared.Quantity.the-variants.{Ticks, Run, Lend, New, Tip}
 use Rattle.desk.specs.declared.Asked.{Asked}
 use Rattle.desk.specs.declared.Asked.the-variants as A
 use Rattle.desk.specs.Desk.{askedOf}
@@ -58,8 +59,8 @@ use Rattle.desk.specs.Hex.{bytesIn}
 use Rattle.line.proofs.Answers.{answer-fits}
 use Rattle.station.specs.declared.Station.{Station}
 use Rattle.station.specs.Serve as Serve
-use Rattle.station.specs.Serve.{Served, endedOf, goneOn, sentBy, sentOf, placedOf, ranOf, madeBy, numberedOf, silent, saidTo, rawByte, rawFrom, closed, rawOf, didOf, servedOf}
-use Rattle.printing.specs.Print.{ended, shownOf, placeOf, usedOf, barOf, addedOf, closeOf, noLf, OneLine}
+use Rattle.station.specs.Serve.{Served, endedOf, goneOn, sentBy, sentOf, placedOf, usedUp, madeBy, numberedOf, silent, saidTo, rawByte, rawFrom, closed, rawOf, didOf, servedOf}
+use Rattle.printing.specs.Print.{ended, shownOf, lastOf, placeOf, usedOf, barOf, addedOf, closeOf, noLf, OneLine}
 
 -- a byte of at least 11 is no LF
 plain : (b : ℕ) → 10 < b → noLf b ≡ true
@@ -118,24 +119,25 @@ setting-plain n s =
     by PlainTold (eqb n 19) (λ _. tt) (λ _.
     by PlainTold (eqb n 20) (λ _. tt) (λ _. tt)))))))))))
 
-value-plain : (n : ℕ) (b : Body) (s : State) → PlainTold (valueOf n b s)
+value-plain : (n : ℕ) (tip : Bool) (b : Body) (s : State) → PlainTold (valueOf n tip b s)
 unfolding valueOf
-value-plain n b s =
+value-plain n tip b s =
     by PlainTold (eqb n 0) (λ _. tt) (λ _.
     by PlainTold (eqb n 1) (λ _. tt) (λ _.
     by PlainTold (eqb n 3) (λ _. tt) (λ _.
     by PlainTold (leb 4 n && leb n 20) (λ _. setting-plain n (b .settings)) (λ _.
     by PlainTold (eqb n 29) (λ _. tt) (λ _.
-    by PlainTold (eqb n 67) (λ _. tt) (λ _. tt))))))
+    by PlainTold (eqb n 31) (λ _. tt) (λ _.
+    by PlainTold (eqb n 67) (λ _. tt) (λ _. tt)))))))
 
-tell-plain : (q : Question) (ours : ℕ) (b : Body) (s : State) (error column : ℕ) → 10 < ours → PlainTold (tellOf q ours b s error column)
+tell-plain : (q : Question) (ours : ℕ) (tip : Bool) (b : Body) (c : Course) → 10 < ours → PlainTold (tellOf q ours tip b c)
 unfolding tellOf queryOf
-tell-plain (Q.Query n) ours b s error column h =
+tell-plain (Q.Query n) ours tip b c h =
     by PlainTold (eqb n 0) (λ _. tt) (λ _.
     by PlainTold (eqb n 1) (λ _. omega arith) (λ _.
     by PlainTold (eqb n 2) (λ _. tt) (λ _. tt)))
-tell-plain (Q.Value n) ours b s error column h = value-plain n b s
-tell-plain Q.Address ours b s error column h = h
+tell-plain (Q.Value n) ours tip b c h = value-plain n tip b (c .state)
+tell-plain Q.Address ours tip b c h = h
 
 letter-plain : (a : Address) → 10 < letterOf a
 letter-plain One = omega arith
@@ -156,16 +158,16 @@ told-plain : (t : Told) (error : ℕ) → PlainTold t → PlainOutcome (toldCode
 told-plain (Says r) error h = h
 told-plain No error h = tt
 
-outcome-plain : (g : Got) (a : Address) (v : Verdict) (c : Core) → PlainOutcome (outcomeOf g a v c)
+outcome-plain : (g : Got) (a : Address) (v : Verdict) (tip : Bool) (c : Core) → PlainOutcome (outcomeOf g a v tip c)
 unfolding outcomeOf
-outcome-plain G.Nothing a v c = tt
-outcome-plain (G.Data (D.Report q)) a v c =
-    told-plain (toldOf q a c) (c .course .error) (tell-plain q (letterOf a) (c .body) (c .course .state) (c .course .error) (c .course .misread) (letter-plain a))
-outcome-plain (G.Data D.WrongReport) a v c = tt
-outcome-plain (G.Data (D.Control k)) a v c = tt
-outcome-plain (G.Data (D.Text n run)) a v c = tt
-outcome-plain (G.Data (D.Wrong m)) a v c = tt
-outcome-plain (G.Data D.TooLong) a v c = tt
+outcome-plain G.Nothing a v tip c = tt
+outcome-plain (G.Data (D.Report q)) a v tip c =
+    told-plain (toldOf q a tip c) (c .course .error) (tell-plain q (letterOf a) tip (c .body) (c .course) (letter-plain a))
+outcome-plain (G.Data D.WrongReport) a v tip c = tt
+outcome-plain (G.Data (D.Control k)) a v tip c = tt
+outcome-plain (G.Data (D.Text n run)) a v tip c = tt
+outcome-plain (G.Data (D.Wrong m)) a v tip c = tt
+outcome-plain (G.Data D.TooLong) a v tip c = tt
 
 -- what is shown of an answer: its status byte and its data
 heart : (status : ℕ) (report : Report) (buf : List ℕ) → 32 ≤ length buf → printedOf (length (answerOf status report)) (over (answerOf status report) 0 buf) ≡ status ∷ reportOf report
@@ -198,7 +200,7 @@ unfolding byteOf heardOf dealtOf shownOf every
 byte-shown k b buf =
     by (λ (t : Turn After). OneLine (shownOf (t .next .reply .said) (t .next .buffer))) (ltb (length buf) 32)
     (λ e. one-line (chars "S1") refl)
-    (λ e. outcome-shown _ _ buf (outcome-plain _ (k .address) _ (k .device .core)) (ltb-false (length buf) 32 e))
+    (λ e. outcome-shown _ _ buf (outcome-plain _ (k .address) _ (k .device .tip) (k .device .core)) (ltb-false (length buf) 32 e))
 
 -- bytes in hex
 hex-plain : (n : ℕ) → 10 < digitFor n
@@ -245,17 +247,24 @@ digits-space n = every-append noLf (digitsOf n) (chars " ") (digits-plain (digit
 place-plain : (p x : ℕ) → every noLf ((digitsOf p ++ chars " ") ++ longOf x) ≡ true
 place-plain p x = every-append noLf (digitsOf p ++ chars " ") (longOf x) (digits-space p) (long-plain x)
 
-placed : (p x : ℕ) → OneLine (placeOf p x)
-unfolding placeOf
-placed p x = one-line ((digitsOf p ++ chars " ") ++ longOf x) (place-plain p x)
+-- behind a text without LF
+behind : (front text : List ℕ) → every noLf front ≡ true → OneLine text → OneLine (front ++ text)
+behind front text h one =
+    record { body = front ++ one .body; is = ap (_++_ front) (one .is) ∙ sym (append-assoc front (one .body) (lf ∷ [])); inside = every-append noLf front (one .body) h (one .inside) }
 
-used : (u : Used) (p x : ℕ) → OneLine (usedOf u p x)
-unfolding usedOf placeOf every
-used (U.Ticks n) p x =
-    let front = digitsOf n ++ chars " " in
-    let back = (digitsOf p ++ chars " ") ++ longOf x in
-    record { body = front ++ back; is = sym (append-assoc front back (lf ∷ [])); inside = every-append noLf front back (digits-space n) (place-plain p x) }
-used U.S3 p x = one-line (chars "S3") refl
+last : (asked : Bool) → OneLine (lastOf asked)
+unfolding every
+last true = one-line (chars " eject") refl
+last false = one-line [] refl
+
+placed : (p x : ℕ) (asked : Bool) → OneLine (placeOf p x asked)
+unfolding placeOf
+placed p x asked = behind ((digitsOf p ++ chars " ") ++ longOf x) (lastOf asked) (place-plain p x) (last asked)
+
+used : (u : Used) (p x : ℕ) (asked : Bool) → OneLine (usedOf u p x asked)
+unfolding usedOf every
+used (U.Ticks n) p x asked = behind (digitsOf n ++ chars " ") (placeOf p x asked) (digits-space n) (placed p x asked)
+used U.S3 p x asked = one-line (chars "S3") refl
 
 -- each line
 sent : (said : Said) (text : List ℕ) (s : Station) → OneLine (sentBy said text s .text)
@@ -270,17 +279,18 @@ made (Is a) s = one-line (chars "ok") refl
 made S2 s = one-line (chars "S2") refl
 
 numbered : (q : Quantity) (n : ℕ) (s : Station) → OneLine (numberedOf q n s .text)
-unfolding numberedOf placedOf ranOf every
-numbered Ticks n s = placed _ _
-numbered Run n s = used _ _ _
+unfolding numberedOf placedOf usedUp every
+numbered Ticks n s = placed _ _ _
+numbered Run n s = used _ _ _ _
 numbered Lend n s = one-line (chars "ok") refl
 numbered New n s = made (addressOf n) s
+numbered Tip n s = one-line (chars "ok") refl
 
 did : (a : Asked) (line : List ℕ) (s : Station) → OneLine (didOf a line s .text)
 unfolding didOf sentOf placedOf rawOf every
 did A.Send line s = sent _ (drop 2 line) _
 did (A.Number q n) line s = numbered q n s
-did A.Stop line s = placed _ _
+did A.Stop line s = placed _ _ _
 did A.Raw line s = let t = rawFrom (bytesIn (drop 2 line)) (Serve.served s []) in closes (t .text) (silent (t .text)) (raw-plain (bytesIn (drop 2 line)) (Serve.served s []) refl)
 did A.Wrong line s = one-line (chars "?") refl
 

@@ -22,10 +22,11 @@ use Rattle.buffer.specs.Course.{withError, begun}
 use Rattle.buffer.specs.Order.{cellOf, loopsBy, verdictOf, storedBy, laidBy}
 use Rattle.machine.specs.declared.Device.{Device}
 use Rattle.machine.specs.declared.Ran as Machine
+use Rattle.motion.specs.declared.Sense.{Sense}
 use Rattle.machine.specs.Step.{core, around, fine, activeOf, stepOf}
 use Rattle.machine.specs.Run.{readyIn, usedOf}
 use Rattle.machine.specs.Act.{haltOf, stopOf, changedOf, doneOf, coreError, actedOf, actOf}
-use Rattle.machine.specs.Device.{device, tickOf, haltedOf, advanceOf, ranOf}
+use Rattle.machine.specs.Device.{device, tipAfter, tickOf, haltedOf, advanceOf, ranOf}
 use Rattle.machine.specs.Valid.{Ready}
 use Rattle.machine.specs.Refusals.{verdictFor}
 use Rattle.machine.proofs.Runs.{ready-ticks}
@@ -35,6 +36,7 @@ use Rattle.pipettor.specs.Byte.{After, Exchange, actionOf, taskOf, performedOf,
 use Rattle.pipettor.specs.Controller.{madeOf, tickedOf, stoppedOf, advancedOf, runOf}
 use Rattle.pipettor.specs.Listening.{listenedOf}
 use Rattle.frames.specs.Frame.{addedOf, exchangeOf}
+use Rattle.frames.specs.Tips.{withTip}
 use Rattle.frames.specs.Refused.{numberFor, refusalOf, isReport, columnAfter}
 use Rattle.frames.specs.Limits.{wholeOf}
 use Rattle.frames.proofs.Calls.{s1-changes-nothing}
@@ -47,15 +49,21 @@ use Rattle.demands.proofs.InHand.{every-controller-receives}
 use Rattle.demands.proofs.Sound.{every-controller-is-sound}
 use Rattle.demands.proofs.Texts.{kept, an-accepted-string-waits-or-runs-from-its-start}
 
+-- a device that is another's, but for the tip, which follows the ticks
+abbrev SameBut : Controller → Device → Type 0
+SameBut k d = (t : Bool) × (d ≡ withTip t (k .device))
+
 -- a device that waits with its text keeps it through every call that ends no frame to us
 module _ (k : Controller) (stored : k .device .core .course .state ≡ Stored) where
-  waits : (n : ℕ) → advanceOf n (k .device) .device ≡ k .device
+  waits : (n : ℕ) (s : Sense) → SameBut k (advanceOf n s (k .device) .device)
   unfolding advanceOf
-  waits n = rw (ready-ticks n (around (k .device .text)) (fine (k .device .core)) (ap readyIn stored))
+  waits n s = (tipAfter n s (k .device .tip), rw (ready-ticks n (around (k .device .text) s) (fine (k .device .core)) (ap readyIn stored)))
 
-  no-run : (n : ℕ) → ranOf n (k .device) .turned .device ≡ k .device
+  no-run : (n : ℕ) (s : Sense) → SameBut k (ranOf n s (k .device) .turned .device)
   unfolding ranOf
-  no-run n = by (λ (r : Machine.Ran). r .turned .device ≡ k .device) (ltb 60000 n) (λ h. refl) (λ h. waits (usedOf n (around (k .device .text)) (fine (k .device .core))))
+  no-run n s =
+      by (λ (r : Machine.Ran). SameBut k (r .turned .device)) (ltb 60000 n) (λ h. (k .device .tip, refl))
+      (λ h. waits (usedOf n (around (k .device .text) s) (fine (k .device .core))) s)
 
 module _ (a : Address) (calls : List Call) where
   abbrev here : Controller
@@ -86,22 +94,22 @@ module _ (a : Address) (calls : List Call) where
           (λ e ds hand. silent ds (record { buffer = l .buffer; is = ap (λ (x : ℕ). byte x l) e; long = long; whole = hand }))
           long)
 
-  idle : here .device .core .course .state ≡ Stored → (c : Call) → ((ds : List ℕ) → Ends a calls c ds → ⊥) → callOf c here .next .device ≡ here .device
+  idle : here .device .core .course .state ≡ Stored → (c : Call) → ((ds : List ℕ) → Ends a calls c ds → ⊥) → SameBut here (callOf c here .next .device)
   unfolding callOf listenedOf tickedOf tickOf stepOf activeOf stoppedOf haltedOf stopOf haltOf advancedOf runOf
-  idle stored (byte b l) silent = unheard b l silent
-  idle stored (listen bytes) silent = refl
-  idle stored tick silent = rw stored
-  idle stored stop silent = rw stored
-  idle stored (advance n) silent = waits here stored n
-  idle stored (run n) silent = no-run here stored n
+  idle stored (byte b l) silent = (here .device .tip, unheard b l silent)
+  idle stored (listen bytes) silent = (here .device .tip, refl)
+  idle stored (tick s) silent = (s .tip, rw stored)
+  idle stored stop silent = (here .device .tip, rw stored)
+  idle stored (advance n s) silent = waits here stored n s
+  idle stored (run n s) silent = no-run here stored n s
 
 -- R and T, in a device that has a text stored
 module _ (added : List ℕ) (d : Device) (stored : d .core .course .state ≡ Stored) where
-  begins : verdictFor A.Run added d ≡ Fine → actOf A.Run added d .next .device ≡ device (d .text) (core (d .core .body) (withError 0 0 (begun (d .core .course .len) (d .core .course))))
+  begins : verdictFor A.Run added d ≡ Fine → actOf A.Run added d .next .device ≡ device (d .text) (d .tip) (core (d .core .body) (withError 0 0 (begun (d .core .course .len) (d .core .course))))
   unfolding actOf actedOf doneOf changedOf storedBy laidBy cellOf
   begins ok = rw (ok, stored)
 
-  stays : actOf A.Stop added d .next .device ≡ device (d .text) (coreError 0 0 (d .core))
+  stays : actOf A.Stop added d .next .device ≡ device (d .text) (d .tip) (coreError 0 0 (d .core))
   unfolding actOf actedOf doneOf changedOf stopOf haltOf storedBy laidBy cellOf verdictOf loopsBy
   stays = rw stored
 
@@ -178,7 +186,7 @@ module _ (a : Address) where
       subst (λ (x : List ℕ). Keeps x (after a (before ++ (c ∷ [])) .device)) (behind before c ds t (parts-are-stored-whole before t l)) (waits-with before c ds p)
   parts-are-stored-whole calls text (between before t c l silent) =
       let k = parts-are-stored-whole before t l in
-      rw (one-more a before c, idle a before (k .stored) c silent) k
+      rw (one-more a before c, idle a before (k .stored) c silent .1) (record { stored = k .stored; whole = k .whole })
   parts-are-stored-whole calls text (report before t c ds l e is) =
       rw (ended a before c ds e) (report-keeps ds a (after a before .device) (e .buffer) t (parts-are-stored-whole before t l) is)
   parts-are-stored-whole calls text (refused before t c ds l e why) =

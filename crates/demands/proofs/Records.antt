@@ -15,7 +15,8 @@ use Rattle.command.specs.declared.Way.the-variants.{To}
 use Rattle.command.specs.declared.Command.{Command}
 use Rattle.command.specs.declared.Command.the-variants as C
 use Rattle.text.specs.Data.{spaceless, controlOf, dataOf, receivedOf}
-use Rattle.motion.specs.declared.Activity.the-variants.{Initialising, Moving, Delaying, Between}
+use Rattle.motion.specs.declared.Sense.{Sense}
+use Rattle.motion.specs.declared.Activity.the-variants.{Initialising, Moving, Delaying, Ejecting, Between}
 use Rattle.motion.specs.declared.Target.{Target}
 use Rattle.motion.specs.declared.Target.the-variants.{At, Outside}
 use Rattle.motion.specs.Events.{start}
@@ -27,7 +28,7 @@ use Rattle.machine.specs.Step.{takenOf, carriedOn, runningOf, activeOf, stepOf,
 use Rattle.machine.specs.Act.{haltOf, stopOf, changedOf, doneOf, actedOf, actOf}
 use Rattle.machine.specs.Device.{freshOf, tickOf, haltedOf}
 use Rattle.machine.specs.History.{moving}
-use Rattle.machine.specs.OnCourse.{Failing, uninitialised, steep, outside}
+use Rattle.machine.specs.OnCourse.{Failing, uninitialised, steep, outside, tipless, unready}
 use Rattle.pipettor.specs.declared.address.Address.{Address}
 use Rattle.pipettor.specs.declared.Controller.{Controller}
 use Rattle.pipettor.specs.Byte.{taskOf, performedOf, dealtOf}
@@ -35,7 +36,8 @@ use Rattle.pipettor.specs.Controller.{madeOf, tickedOf, stoppedOf}
 use Rattle.frames.specs.Frame.{exchangeOf}
 use Rattle.frames.proofs.Controls.{every-frame-but-T-and-reset-adds-nothing}
 use Rattle.demands.specs.Calls.{eventsOf, after, history}
-use Rattle.demands.specs.Records.{Takes, asked, CarriedOut, MovesNothing, plungerAt, Records, Recording}
+use Rattle.demands.specs.Demands.{Takes}
+use Rattle.demands.specs.Records.{asked, CarriedOut, MovesNothing, plungerAt, Records, Recording}
 
 -- a place within travel is the place asked for
 place : Target → ℕ
@@ -49,30 +51,32 @@ within-is by-it exact =
     (λ h e. let z : _≡_ {A = ℕ} 0 1 = cc in absurd (omega arith))
     (λ h e. sym (ap place e))
 
-module _ (k : Controller) where
+module _ (s : Sense) (k : Controller) where
   -- a tick that takes a command adds what the command adds
-  taking : (command : Command) → Takes k command → tickedOf k .events ≡ effectOf command (k .device .core .body) .events
+  taking : (command : Command) → Takes k command → tickedOf s k .events ≡ effectOf s command (k .device .core .body) .events
   unfolding tickedOf tickOf stepOf activeOf runningOf takenOf
   taking command t = rw (t .between, t .found)
 
-  move-adds : (way : Way) (v : Volume) (c : CarriedOut k way v) → effectOf (C.Move way v) (k .device .core .body) .events ≡ eventOf way v (k .device .core .body .settings .rate) (c .exact) ∷ []
+  move-adds : (way : Way) (v : Volume) (c : CarriedOut k way v) → effectOf s (C.Move way v) (k .device .core .body) .events ≡ eventOf way v (k .device .core .body .settings .rate) (c .exact) ∷ []
   unfolding effectOf moveOf aimed
   move-adds way v c = rw (c .initialised, le-ltb (k .device .core .body .settings .top) (k .device .core .body .settings .start) (c .flat), c .within)
 
-  moving-adds : (way : Way) (v : Volume) (c : CarriedOut k way v) → tickedOf k .events ≡ eventOf way v (k .device .core .body .settings .rate) (c .exact) ∷ []
+  moving-adds : (way : Way) (v : Volume) (c : CarriedOut k way v) → tickedOf s k .events ≡ eventOf way v (k .device .core .body .settings .rate) (c .exact) ∷ []
   moving-adds way v c = taking (C.Move way v) (c .takes) ∙ move-adds way v c
 
   to-the-place : (v : Volume) (c : CarriedOut k To v) → c .exact ≡ asked k v
   unfolding targetOf
   to-the-place v c = within-is (asked k v) (c .exact) (c .within)
 
-  failing-adds : (command : Command) (why : Refusal) → Failing command (k .device .core .body) why → effectOf command (k .device .core .body) .events ≡ []
+  failing-adds : (command : Command) (why : Refusal) → Failing s command (k .device .core .body) why → effectOf s command (k .device .core .body) .events ≡ []
   unfolding effectOf moveOf aimed
   failing-adds command why (uninitialised way v e i) = rw (e, i)
   failing-adds command why (steep way v e i s) = rw (e, i, lt-ltb (k .device .core .body .settings .top) (k .device .core .body .settings .start) s)
   failing-adds command why (outside way v e i flat out) = rw (e, i, le-ltb (k .device .core .body .settings .top) (k .device .core .body .settings .start) flat, out)
+  failing-adds command why (tipless e t) = rw e
+  failing-adds command why (unready e i) = rw e
 
-  others-add : (command : Command) → MovesNothing command → effectOf command (k .device .core .body) .events ≡ []
+  others-add : (command : Command) → MovesNothing command → effectOf s command (k .device .core .body) .events ≡ []
   unfolding effectOf
   others-add (C.Initialise speed) h = absurd h
   others-add (C.Move way v) h = absurd h
@@ -81,21 +85,23 @@ module _ (k : Controller) where
   others-add (C.Backlash n) h = refl
   others-add (C.Compensate n down) h = refl
   others-add (C.Delay ms) h = refl
+  others-add (C.Eject bare) h = refl
   others-add C.Open h = refl
   others-add (C.Close n) h = refl
 
-  idle-adds : (s : State) → (s ≡ Running Between → ⊥) → activeOf s (around (k .device .text)) (k .device .core) .events ≡ []
+  idle-adds : (x : State) → (x ≡ Running Between → ⊥) → activeOf x (around (k .device .text) s) (k .device .core) .events ≡ []
   unfolding activeOf runningOf carriedOn onwardOf
   idle-adds (Running (Initialising t)) h = refl
   idle-adds (Running (Moving t)) h = refl
   idle-adds (Running (Delaying n)) h = refl
+  idle-adds (Running Ejecting) h = refl
   idle-adds (Running Between) h = absurd (h refl)
   idle-adds Empty h = refl
   idle-adds Stored h = refl
   idle-adds Stopped h = refl
   idle-adds Done h = refl
 
-  cut-adds : (s : State) → moving s ≡ true → haltOf s (k .device .core) .events ≡ start (plungerAt k) ∷ []
+  cut-adds : (x : State) → moving x ≡ true → haltOf x (k .device .core) .events ≡ start (plungerAt k) ∷ []
   unfolding haltOf cutOf
   cut-adds (Running a) h = rw h
   cut-adds Empty h = absurd (false≢true h)
@@ -103,7 +109,7 @@ module _ (k : Controller) where
   cut-adds Stopped h = absurd (false≢true h)
   cut-adds Done h = absurd (false≢true h)
 
-  still-adds : (s : State) → moving s ≡ false → haltOf s (k .device .core) .events ≡ []
+  still-adds : (x : State) → moving x ≡ false → haltOf x (k .device .core) .events ≡ []
   unfolding haltOf cutOf
   still-adds (Running a) h = rw h
   still-adds Empty h = refl
@@ -119,11 +125,11 @@ module _ (k : Controller) where
   unfolding exchangeOf dealtOf receivedOf spaceless dataOf controlOf taskOf performedOf actOf cellOf loopsBy verdictOf actedOf doneOf changedOf resetOf
   reset-adds buf = refl
 
-  home-adds : (speed : ℕ) → effectOf (C.Initialise speed) (k .device .core .body) .events ≡ start 0 ∷ []
+  home-adds : (speed : ℕ) → effectOf s (C.Initialise speed) (k .device .core .body) .events ≡ start 0 ∷ []
   unfolding effectOf homeOf
   home-adds speed = refl
 
-  every-controller-records : Records k
+  every-controller-records : Records s k
   unfolding tickedOf tickOf stepOf stoppedOf haltedOf stopOf
   every-controller-records = record {
     W-starts-it-at-0 = λ speed t. taking (C.Initialise speed) t ∙ home-adds speed;
@@ -145,4 +151,4 @@ unfolding history eventsOf madeOf freshOf freshBody
 made a = refl
 
 pub the-history-records : Recording
-the-history-records = record { making-starts-it-at-0 = made; calling = λ a calls. every-controller-records (after a calls) }
+the-history-records = record { making-starts-it-at-0 = made; calling = λ a calls s. every-controller-records s (after a calls) }

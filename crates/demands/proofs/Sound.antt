@@ -6,6 +6,7 @@ use native.Mathlib.Omega.{arith}
 use lib.Dec.{ltb}
 use lib.ListN.{replicate, length-replicate}
 use Rattle.basics.proofs.Choice.{by}
+use Rattle.motion.specs.declared.Sense.{Sense}
 use Rattle.motion.specs.Events.{Turn}
 use Rattle.motion.specs.Motion.{freshBody}
 use Rattle.machine.specs.declared.Device.{Device}
@@ -32,71 +33,71 @@ use Rattle.demands.proofs.Does.{Does, none, new-error, call, ticks, eve
 -- the exact position stays the sum of the history, and the plunger by it or on its way
 call-tells : (k : Machine.Call) (d : Device) (s : Sum) → CoreTold (d .core) s → (let t = Machine.callOf k d in CoreTold (t .next .core) (addedUp s (t .events)))
 unfolding Machine.callOf tickOf haltedOf
-call-tells Machine.tick d s told = step-tells (d .core) s told (around (d .text))
+call-tells (Machine.tick x) d s told = step-tells (d .core) s told (around (d .text) x)
 call-tells (Machine.act a added) d s told = act-tells a added d s told
 call-tells Machine.stop d s told = stop-tells (d .core) s told
 
 -- ticks are as many calls of one
-ticks-tell : (n : ℕ) (d : Device) (s : Sum) → CoreTold (d .core) s → CoreTold (Machine.afterOf (replicate n Machine.tick) d .core) (addedUp s (ticksEvents n d))
+ticks-tell : (n : ℕ) (x : Sense) (d : Device) (s : Sum) → CoreTold (d .core) s → CoreTold (Machine.afterOf (replicate n (Machine.tick x)) d .core) (addedUp s (ticksEvents n x d))
 unfolding ticksEvents Machine.afterOf Machine.eventsOf addedUp
-ticks-tell zero d s told = told
-ticks-tell (suc n) d s told =
-    let t = Machine.callOf Machine.tick d in
-    rw (added-on s (t .events) (ticksEvents n (t .next)))
-    (ticks-tell n (t .next) (addedUp s (t .events)) (call-tells Machine.tick d s told))
+ticks-tell zero x d s told = told
+ticks-tell (suc n) x d s told =
+    let t = Machine.callOf (Machine.tick x) d in
+    rw (added-on s (t .events) (ticksEvents n x (t .next)))
+    (ticks-tell n x (t .next) (addedUp s (t .events)) (call-tells (Machine.tick x) d s told))
 
 does-tell : (d : Device) (s : Sum) (t : Turn Device) → Does d t → CoreTold (d .core) s → CoreTold (t .next .core) (addedUp s (t .events))
 unfolding addedUp
 does-tell d s t none told = told
 does-tell d s t (new-error why) told = told
 does-tell d s t (call k sent) told = call-tells k d s told
-does-tell d s t (ticks n) told = rw (to-advance-is-to-call-ticks n d) at (ticks-tell n d s told)
+does-tell d s t (ticks n x) told = rw (to-advance-is-to-call-ticks x n d) at (ticks-tell n x d s told)
 
 -- the course is kept
-ticks-keep-on-course : (n : ℕ) (d : Device) → Ready (d .core) (d .text) → OnCourse d → OnCourse (Machine.afterOf (replicate n Machine.tick) d)
+ticks-keep-on-course : (n : ℕ) (x : Sense) (d : Device) → Ready (d .core) (d .text) → OnCourse d → OnCourse (Machine.afterOf (replicate n (Machine.tick x)) d)
 unfolding Machine.afterOf Machine.callOf tickOf
-ticks-keep-on-course zero d r o = o
-ticks-keep-on-course (suc n) d r o =
-    ticks-keep-on-course n (Machine.callOf Machine.tick d .next)
-    (record { valid = step-keeps (d .core) (r .valid) (around (d .text)); long = r .long })
-    (a-call-keeps-on-course Machine.tick d r tt o)
+ticks-keep-on-course zero x d r o = o
+ticks-keep-on-course (suc n) x d r o =
+    ticks-keep-on-course n x (Machine.callOf (Machine.tick x) d .next)
+    (record { valid = step-keeps (d .core) (r .valid) (around (d .text) x); long = r .long })
+    (a-call-keeps-on-course (Machine.tick x) d r tt o)
 
 does-keep-on-course : (d : Device) (t : Turn Device) → Does d t → Ready (d .core) (d .text) → OnCourse d → OnCourse (t .next)
 does-keep-on-course d t none r o = o
 does-keep-on-course d t (new-error why) r o = o
 does-keep-on-course d t (call k sent) r o = a-call-keeps-on-course k d r sent o
-does-keep-on-course d t (ticks n) r o = rw (to-advance-is-to-call-ticks n d) at (ticks-keep-on-course n d r o)
+does-keep-on-course d t (ticks n x) r o = rw (to-advance-is-to-call-ticks x n d) at (ticks-keep-on-course n x d r o)
 
 -- while W is in progress the plunger is not initialised
-ticks-keep-homing : (n : ℕ) (d : Device) → Homes (d .core) → Homes (Machine.afterOf (replicate n Machine.tick) d .core)
+ticks-keep-homing : (n : ℕ) (x : Sense) (d : Device) → Homes (d .core) → Homes (Machine.afterOf (replicate n (Machine.tick x)) d .core)
 unfolding Machine.afterOf
-ticks-keep-homing zero d h = h
-ticks-keep-homing (suc n) d h = ticks-keep-homing n (Machine.callOf Machine.tick d .next) (a-call-keeps-homing Machine.tick d h)
+ticks-keep-homing zero x d h = h
+ticks-keep-homing (suc n) x d h = ticks-keep-homing n x (Machine.callOf (Machine.tick x) d .next) (a-call-keeps-homing (Machine.tick x) d h)
 
 does-keep-homing : (d : Device) (t : Turn Device) → Does d t → Homes (d .core) → Homes (t .next .core)
 does-keep-homing d t none h = h
 does-keep-homing d t (new-error why) h = h
 does-keep-homing d t (call k sent) h = a-call-keeps-homing k d h
-does-keep-homing d t (ticks n) h = rw (to-advance-is-to-call-ticks n d) at (ticks-keep-homing n d h)
+does-keep-homing d t (ticks n x) h = rw (to-advance-is-to-call-ticks x n d) at (ticks-keep-homing n x d h)
 
 -- the premise of every call, and the lengths of the arrays
 pub call-keeps-valid : (c : Call) (k : Controller) → Sized k → Valid k → Valid (callOf c k .next)
 unfolding callOf
 call-keeps-valid (byte b l) k s v = byte-keeps k b (l .buffer) (s .text) v
 call-keeps-valid (listen bytes) k s v = listen-keeps-valid k bytes v
-call-keeps-valid tick k s v = tick-keeps k v
+call-keeps-valid (tick x) k s v = tick-keeps k v x
 call-keeps-valid stop k s v = stop-keeps-valid k v
-call-keeps-valid (advance n) k s v = advance-keeps k v n
-call-keeps-valid (run n) k s v = run-keeps k v n
+call-keeps-valid (advance n x) k s v = advance-keeps k v n x
+call-keeps-valid (run n x) k s v = run-keeps k v n x
 
 pub call-keeps-sized : (c : Call) (k : Controller) → Sized k → Valid k → Sized (callOf c k .next)
 unfolding callOf tickedOf tickOf stoppedOf haltedOf advancedOf advanceOf runOf ranOf
 call-keeps-sized (byte b l) k s v = byte-keeps-sizes k b (l .buffer) s v
 call-keeps-sized (listen bytes) k s v = listen-keeps-sizes k bytes s
-call-keeps-sized tick k s v = record { frame = s .frame; text = s .text }
+call-keeps-sized (tick x) k s v = record { frame = s .frame; text = s .text }
 call-keeps-sized stop k s v = record { frame = s .frame; text = s .text }
-call-keeps-sized (advance n) k s v = record { frame = s .frame; text = s .text }
-call-keeps-sized (run n) k s v =
+call-keeps-sized (advance n x) k s v = record { frame = s .frame; text = s .text }
+call-keeps-sized (run n x) k s v =
     by (λ (r : Ran). Sized (on (r .turned .device) k)) (ltb 60000 n)
     (λ h. record { frame = s .frame; text = s .text })
     (λ h. record { frame = s .frame; text = s .text })

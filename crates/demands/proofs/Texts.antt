@@ -13,9 +13,6 @@ use Rattle.basics.proofs.Choice.{by}
 use Rattle.command.specs.declared.refusal.Refusal.{Refusal}
 use Rattle.command.specs.declared.refusal.Refusal.the-variants as R
 use Rattle.command.specs.declared.refusal.Verdict.the-variants.{Fine, Refused}
-use Rattle.command.specs.declared.Found.{Found}
-use Rattle.command.specs.declared.Found.the-variants as F
-use Rattle.command.specs.Command.{commandAt}
 use Rattle.command.proofs.Numbers.{zero-is-fine}
 use Rattle.text.specs.declared.Data.the-variants as D
 use Rattle.text.specs.Data.{spaceless, body, receivedOf}
@@ -23,29 +20,23 @@ use Rattle.line.specs.Wire.{dataByte}
 use Rattle.line.specs.Answer as Answer
 use Rattle.line.specs.Answer.{statusOf}
 use Rattle.line.proofs.Answers.{status-bits}
-use Rattle.motion.specs.declared.Body.{Body}
+use Rattle.motion.specs.declared.Sense.{Sense}
 use Rattle.motion.specs.declared.Activity.{Activity}
-use Rattle.motion.specs.declared.Activity.the-variants.{Initialising, Moving, Delaying, Between}
-use Rattle.motion.specs.declared.Effect.{Effect}
-use Rattle.motion.specs.declared.Effect.the-variants.{Goes, Ends, Fails, Opens, Closes}
+use Rattle.motion.specs.declared.Activity.the-variants.{Initialising, Moving, Delaying, Ejecting, Between}
 use Rattle.motion.specs.Events.{Turn}
-use Rattle.motion.specs.Motion.{between, effectOf, onwardOf}
 use Rattle.buffer.specs.declared.course.State.{State}
 use Rattle.buffer.specs.declared.course.State.the-variants.{Empty, Stored, Running, Stopped, Done}
 use Rattle.buffer.specs.declared.course.Column.{Column}
 use Rattle.buffer.specs.declared.course.Column.the-variants as K
-use Rattle.buffer.specs.declared.course.Loops.{Loops}
 use Rattle.buffer.specs.declared.course.Course.{Course}
-use Rattle.buffer.specs.declared.course.Went.{Went}
 use Rattle.buffer.specs.declared.order.Loading.the-variants.{Joined, Replacing}
 use Rattle.buffer.specs.declared.order.Order.{Order}
 use Rattle.buffer.specs.declared.order.Order.the-variants as O
 use Rattle.buffer.specs.Course.{courseOf, noLoops, whileOf, reached, withError, begun, waiting}
 use Rattle.buffer.specs.Order.{cellOf, orderOf, verdictOf}
-use Rattle.machine.specs.declared.step.Core.{Core}
 use Rattle.machine.specs.declared.step.Stepped.{Stepped}
 use Rattle.machine.specs.declared.Device.{Device}
-use Rattle.machine.specs.Step.{Around, around, core, fine, wentOf, appliedOf, takenOf, carriedOn, runningOf, activeOf, stepOf, nextOf}
+use Rattle.machine.specs.Step.{Around, around, fine, nextOf}
 use Rattle.machine.specs.Run.{readyIn, readyOf, ticksOf}
 use Rattle.machine.specs.Device.{advanceOf}
 use Rattle.machine.specs.Valid.{Ready}
@@ -53,7 +44,7 @@ use Rattle.machine.specs.Refusals as Buffer
 use Rattle.machine.specs.Refusals.{verdictFor}
 use Rattle.machine.specs.Act.{doneOf, actedOf, actOf}
 use Rattle.machine.specs.History as Machine
-use Rattle.machine.proofs.Looping.{behind-open, behind-close}
+use Rattle.machine.proofs.Ways.{Ways, step-by}
 use Rattle.machine.proofs.Runs.{ready-ticks}
 use Rattle.machine.proofs.Stored.{a-string-that-is-loaded-is-stored-whole}
 use Rattle.pipettor.specs.declared.address.Address.{Address}
@@ -88,6 +79,7 @@ column-while : (a : Activity) → (whileOf a ≡ K.Busy) ⊎ (whileOf a ≡ K.De
 column-while (Initialising t) = inl refl
 column-while (Moving t) = inl refl
 column-while (Delaying k) = inr refl
+column-while Ejecting = inl refl
 column-while Between = inl refl
 
 loads : (run : Bool) (s : State) (stored : List ℕ) → Loads run stored (orderOf (stringAction run) s) (frontOf s stored)
@@ -193,49 +185,12 @@ no-accepted-text-loses-a-character a calls ds buf n run good long string =
 abbrev Stays : Course → Course → Type 0
 Stays c d = (d .len ≡ c .len) ⊎ (d .state ≡ Empty)
 
-module _ (c : Core) where
-  abbrev StaysIn : Stepped → Type 0
-  StaysIn s = Stays (c .course) (s .core .course)
-
-  abbrev WentStays : Went → Type 0
-  WentStays g = StaysIn (wentOf g (c .body) (c .course))
-
-  reached-stays : (b : Body) (at : ℕ) (l : Loops) → StaysIn (fine (core b (reached at l (c .course))))
-  unfolding reached
-  reached-stays b at l = inl refl
-
-  applied-stays : (e : Effect) (next : ℕ) → StaysIn (appliedOf e next c)
-  unfolding appliedOf
-  applied-stays (Goes b a) next = inl refl
-  applied-stays (Ends b) next = reached-stays b next (c .course .loops)
-  applied-stays (Fails why b) next = inr refl
-  applied-stays Opens next = behind-open WentStays (c .course) (reached-stays (c .body)) (inr refl) next
-  applied-stays (Closes n) next = behind-close WentStays (c .course) (reached-stays (c .body)) (inr refl) n next
-
-  taken-stays : (f : Found) → StaysIn (takenOf f c .next)
-  unfolding takenOf
-  taken-stays (F.Command k next) = applied-stays (effectOf k (c .body) .next) next
-  taken-stays (F.Refused m) = inr refl
-  taken-stays F.End = reached-stays (c .body) (c .course .at) (c .course .loops)
-
-  running-stays : (a : Activity) (w : Around) → StaysIn (runningOf a w c .next)
-  unfolding runningOf carriedOn
-  running-stays a w =
-      by (λ (t : Turn Stepped). StaysIn (t .next)) (between a)
-      (λ h. taken-stays (commandAt (take (c .course .len) (w .text)) (c .course .at)))
-      (λ h. applied-stays (onwardOf a (c .body) .next) (c .course .at))
-
-  active-stays : (s : State) (w : Around) → StaysIn (activeOf s w c .next)
-  unfolding activeOf
-  active-stays (Running a) w = running-stays a w
-  active-stays Empty w = inl refl
-  active-stays Stored w = inl refl
-  active-stays Stopped w = inl refl
-  active-stays Done w = inl refl
-
 next-stays : (w : Around) (s : Stepped) → Stays (s .core .course) (nextOf w s .core .course)
-unfolding nextOf stepOf
-next-stays w s = active-stays (s .core) (s .core .course .state) w
+unfolding nextOf reached
+next-stays w s =
+    step-by (λ (r : Stepped). Stays (s .core .course) (r .core .course)) (s .core)
+    (record { rests = inl refl; goes = λ b a at. inl refl; ends = λ b at l. inl refl; breaks = λ why b. inr refl; asks = λ at. inl refl })
+    w
 
 ticks-stay : (n : ℕ) (w : Around) (s : Stepped) → Stays (s .core .course) (ticksOf n w s .core .course)
 unfolding ticksOf
@@ -248,12 +203,12 @@ ticks-stay (suc n) w s = go (next-stays w s) (ticks-stay n w (nextOf w s))
     go (inr e) (inl q) = inr (ap (λ (r : Stepped). r .core .course .state) (ready-ticks n w (nextOf w s) (ap readyIn e)) ∙ e)
 
 pub a-text-stays-while-it-runs :
-    (n : ℕ) (k : Controller) → (held (advancedOf n k .controller .device) ≡ held (k .device)) ⊎ (advancedOf n k .controller .device .core .course .state ≡ Empty)
+    (n : ℕ) (s : Sense) (k : Controller) → (held (advancedOf n s k .controller .device) ≡ held (k .device)) ⊎ (advancedOf n s k .controller .device .core .course .state ≡ Empty)
 unfolding advancedOf advanceOf
-a-text-stays-while-it-runs n k = go (ticks-stay n (around (k .device .text)) (fine (k .device .core)))
+a-text-stays-while-it-runs n s k = go (ticks-stay n (around (k .device .text) s) (fine (k .device .core)))
   where
     later : Course
-    later = ticksOf n (around (k .device .text)) (fine (k .device .core)) .core .course
+    later = ticksOf n (around (k .device .text) s) (fine (k .device .core)) .core .course
 
     go : Stays (k .device .core .course) later → (take (later .len) (k .device .text) ≡ held (k .device)) ⊎ (later .state ≡ Empty)
     go (inl e) = inl (ap (λ (m : ℕ). take m (k .device .text)) e)

@@ -1,5 +1,6 @@
 -- Theorems: the contract of every public function of the libraries is tight. One, `desk::printed`, hands out a reference and has a statement of its own, at the end;
 -- the console's `serve` has no result: it reads and writes.
+use mathlib.Core.Bool.{false}
 use mathlib.Core.Path.{_≡_, refl, sym, ap, _∙_}
 use mathlib.Core.List.{List}
 use Prim.Native.Nat.{ℕ}
@@ -267,7 +268,7 @@ abbrev done : Acted → Done
 done a = record { core = a .device .core; verdict = a .verdict }
 
 pub machine-step-Core-act : Tight machine.step.Core.act.Kinds.ps machine.step.Core.act.Kinds.r machine.step.Core.act.Reads.Learnt
-machine-step-Core-act κs args z z′ ws ws′ p q = whole done (λ (a : Acted). (tt, (tt, (tt, (a .device .text, tt))))) (p .is) (q .is)
+machine-step-Core-act κs args z z′ ws ws′ p q = whole done (λ (a : Acted). (tt, (tt, (tt, (a .device .text, tt))))) (p .is false) (q .is false)
 
 pub machine-step-Core-skip : Tight machine.step.Core.skip.Kinds.ps machine.step.Core.skip.Kinds.r machine.step.Core.skip.Reads.Learnt
 machine-step-Core-skip κs args z z′ ws ws′ p q = result p q
@@ -298,7 +299,7 @@ pub pipettor-Controller-fresh : Tight pipettor.Controller.fresh.Kinds.ps pipetto
 pipettor-Controller-fresh κs args z z′ ws ws′ p q = result (p .is) (q .is)
 
 abbrev spoke : After → Spoke
-spoke a = let c = a .reply .controller in record { parts = record { address = c .address; line = c .line; core = c .device .core }; said = a .reply .said }
+spoke a = let c = a .reply .controller in record { parts = record { address = c .address; line = c .line; tip = c .device .tip; core = c .device .core }; said = a .reply .said }
 
 pub pipettor-lent-Parts-byte : Tight pipettor.lent.Parts.byte.Kinds.ps pipettor.lent.Parts.byte.Kinds.r pipettor.lent.Parts.byte.Reads.Learnt
 pipettor-lent-Parts-byte κs args z z′ ws ws′ p q = whole spoke (λ (a : After). let c = a .reply .controller in (tt, (tt, (c .frame, (c .device .text, (a .buffer, tt)))))) (p .is) (q .is)
@@ -355,10 +356,10 @@ pub printing-line : Tight printing.line.Kinds.ps printing.line.Kinds.r printing.
 printing-line κs args z z′ ws ws′ p q = lent (λ y. (tt, (y, (tt, tt)))) (p .ends) (q .ends) (p .left) (q .left)
 
 pub printing-place : Tight printing.place.Kinds.ps printing.place.Kinds.r printing.place.Reads.Learnt
-printing-place κs args z z′ ws ws′ p q = lent (λ y. (tt, (tt, (y, (tt, tt))))) (p .ends) (q .ends) (p .left) (q .left)
+printing-place κs args z z′ ws ws′ p q = lent (λ y. (tt, (tt, (tt, (y, (tt, tt)))))) (p .ends) (q .ends) (p .left) (q .left)
 
 pub printing-used : Tight printing.used.Kinds.ps printing.used.Kinds.r printing.used.Reads.Learnt
-printing-used κs args z z′ ws ws′ p q = lent (λ y. (tt, (tt, (tt, (y, (tt, tt)))))) (p .ends) (q .ends) (p .left) (q .left)
+printing-used κs args z z′ ws ws′ p q = lent (λ y. (tt, (tt, (tt, (tt, (y, (tt, tt))))))) (p .ends) (q .ends) (p .left) (q .left)
 
 pub printing-show : Tight printing.show.Kinds.ps printing.show.Kinds.r printing.show.Reads.Learnt
 printing-show κs args z z′ ws ws′ p q = lent (λ y. (tt, (tt, (y, (tt, tt))))) (p .ends) (q .ends) (p .left) (q .left)

@@ -2,9 +2,10 @@
 use Prim.Native.Nat.{ℕ}
 use mathlib.Core.List.{List, [], _∷_, _++_}
 use lib.ListN.{replicate}
-use Rattle.command.specs.declared.refusal.Verdict.{Verdict}
+use Rattle.motion.specs.declared.Sense.{Sense}
 use Rattle.motion.specs.Events.{Event, Turn, quiet}
 use Rattle.machine.specs.declared.Device.{Device}
+use Rattle.machine.specs.declared.step.News.{News}
 use Rattle.machine.specs.declared.Used.{Used}
 use Rattle.machine.specs.declared.Used.the-variants.{Ticks, S3}
 use Rattle.machine.specs.History as Machine
@@ -22,18 +23,18 @@ pub record Lent : Type 0 where
 abbrev pub lent : List ℕ → Lent
 lent buf = record { buffer = buf }
 
--- a byte received, with what is lent for it; bytes handed over at once, as far as none completes a frame; a tick; the host's stop; so many ticks; a run of at most so many
+-- a byte received, with what is lent for it; bytes handed over at once, as far as none completes a frame; a tick, with what the host senses; the host's stop; so many ticks; a run of at most so many
 pub data Call : Type 0 where
   byte : ℕ → Lent → Call
   listen : List ℕ → Call
-  tick : Call
+  tick : Sense → Call
   stop : Call
-  advance : ℕ → Call
-  run : ℕ → Call
+  advance : ℕ → Sense → Call
+  run : ℕ → Sense → Call
 
 -- what so many ticks add to the history
-unfoldable pub ticksEvents : ℕ → Device → List Event
-ticksEvents n d = Machine.eventsOf (replicate n Machine.tick) d
+unfoldable pub ticksEvents : ℕ → Sense → Device → List Event
+ticksEvents n s d = Machine.eventsOf (replicate n (Machine.tick s)) d
 
 -- "the answer says how many ticks it used"; "S3: .. nothing changed"
 abbrev pub ticksUsed : Used → ℕ
@@ -44,27 +45,27 @@ ticksUsed S3 = 0
 unfoldable pub callOf : Call → Controller → Turn Controller
 callOf (byte b l) k = let t = byteOf k b (l .buffer) in record { next = t .next .reply .controller; events = t .events }
 callOf (listen bytes) k = quiet (listenedOf k bytes .controller)
-callOf tick k = let t = tickedOf k in record { next = t .next .controller; events = t .events }
+callOf (tick s) k = let t = tickedOf s k in record { next = t .next .controller; events = t .events }
 callOf stop k = stoppedOf k
-callOf (advance n) k = record { next = advancedOf n k .controller; events = ticksEvents n (k .device) }
-callOf (run n) k = let r = runOf n k in record { next = r .ticked .controller; events = ticksEvents (ticksUsed (r .used)) (k .device) }
+callOf (advance n s) k = record { next = advancedOf n s k .controller; events = ticksEvents n s (k .device) }
+callOf (run n s) k = let r = runOf n s k in record { next = r .ticked .controller; events = ticksEvents (ticksUsed (r .used)) s (k .device) }
 
 -- what a call hands back beside the controller: what a byte says, with what was lent as it is left; how many bytes were taken;
--- why a run fails in ticks, if it does; that, and how many ticks a run used
+-- what ticks tell; that, and how many ticks a run used
 pub data Answered : Type 0 where
   said : Said → Lent → Answered
   taken : ℕ → Answered
-  failed : Verdict → Answered
-  used : Verdict → Used → Answered
+  told : News → Answered
+  used : News → Used → Answered
   nothing : Answered
 
 unfoldable pub answerOf : Call → Controller → Answered
 answerOf (byte b l) k = let a = byteOf k b (l .buffer) .next in said (a .reply .said) (lent (a .buffer))
 answerOf (listen bytes) k = taken (listenedOf k bytes .n)
-answerOf tick k = failed (tickedOf k .next .failed)
+answerOf (tick s) k = told (tickedOf s k .next .news)
 answerOf stop k = nothing
-answerOf (advance n) k = failed (advancedOf n k .failed)
-answerOf (run n) k = let r = runOf n k in used (r .ticked .failed) (r .used)
+answerOf (advance n s) k = told (advancedOf n s k .news)
+answerOf (run n s) k = let r = runOf n s k in used (r .ticked .news) (r .used)
 
 -- calls, first to last: the controller they leave, all that they add to the history, and all that they hand back
 unfoldable pub afterOf : List Call → Controller → Controller

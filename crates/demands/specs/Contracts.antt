@@ -3,6 +3,7 @@ use Prim.Native.Nat.{ℕ}
 use mathlib.Core.Path.{_≡_}
 use mathlib.Core.Bool.{Bool}
 use mathlib.Core.List.{List, [], _∷_}
+use Rattle.motion.specs.declared.Sense.{Sense}
 use Rattle.pipettor.specs.declared.address.Address.{Address}
 use Rattle.pipettor.specs.declared.address.Given.{Given}
 use Rattle.pipettor.specs.declared.Controller.{Controller}
@@ -17,7 +18,7 @@ use Rattle.pipettor.specs.Byte as Byte
 use Rattle.pipettor.specs.Byte.{byteOf}
 use Rattle.pipettor.specs.Listening.{listenedOf}
 use Rattle.pipettor.specs.Controller.{madeOf, tickedOf, stoppedOf, advancedOf, runOf, readyIs}
-use Rattle.demands.specs.Calls.{Lent, Call, byte, listen, tick, stop, advance, run, Answered, said, taken, failed, used, nothing}
+use Rattle.demands.specs.Calls.{Lent, Call, byte, listen, tick, stop, advance, run, Answered, said, taken, told, used, nothing}
 
 -- what each method's `ensures` says of its result, and of the answer buffer afterwards; the one `requires` of byte, tick, advance and run is `Valid`
 -- an address of a number, or S2
@@ -33,17 +34,17 @@ ByteEnsures k b before r after = Returns (Byte.after r (after .buffer)) (byteOf 
 abbrev pub ListenEnsures : Controller → List ℕ → Listened → Type 0
 ListenEnsures k bytes r = Keeps r (listenedOf k bytes) k (r .controller)
 
-abbrev pub TickEnsures : Controller → Ticked → Type 0
-TickEnsures k r = Returns r (tickedOf k .next) (r .controller)
+abbrev pub TickEnsures : Controller → Sense → Ticked → Type 0
+TickEnsures k s r = Returns r (tickedOf s k .next) (r .controller)
 
 abbrev pub StopEnsures : Controller → Controller → Type 0
 StopEnsures k r = Keeps r (stoppedOf k .next) k r
 
-abbrev pub AdvanceEnsures : Controller → ℕ → Ticked → Type 0
-AdvanceEnsures k n r = Returns r (advancedOf n k) (r .controller)
+abbrev pub AdvanceEnsures : Controller → ℕ → Sense → Ticked → Type 0
+AdvanceEnsures k n s r = Returns r (advancedOf n s k) (r .controller)
 
-abbrev pub RunEnsures : Controller → ℕ → Ran → Type 0
-RunEnsures k n r = Returns r (runOf n k) (r .ticked .controller)
+abbrev pub RunEnsures : Controller → ℕ → Sense → Ran → Type 0
+RunEnsures k n s r = Returns r (runOf n s k) (r .ticked .controller)
 
 abbrev pub ReadyEnsures : Controller → Bool → Type 0
 ReadyEnsures k r = r ≡ readyIs k
@@ -62,10 +63,10 @@ pub record Program : Type 1 where
   pub fresh : Address → Controller
   pub byte : Controller → ℕ → Lent → Spoken
   pub listen : Controller → List ℕ → Listened
-  pub tick : Controller → Ticked
+  pub tick : Controller → Sense → Ticked
   pub stop : Controller → Controller
-  pub advance : Controller → ℕ → Ticked
-  pub run : Controller → ℕ → Ran
+  pub advance : Controller → ℕ → Sense → Ticked
+  pub run : Controller → ℕ → Sense → Ran
   pub ready : Controller → Bool
 
 -- what it makes of a call: the controller that is left, and what is handed back
@@ -76,10 +77,10 @@ pub record Made : Type 0 where
 unfoldable pub makes : Program → Call → Controller → Made
 makes p (byte b l) k = let r = p .byte k b l in record { controller = r .reply .controller; answer = said (r .reply .said) (r .left) }
 makes p (listen bytes) k = let r = p .listen k bytes in record { controller = r .controller; answer = taken (r .n) }
-makes p tick k = let r = p .tick k in record { controller = r .controller; answer = failed (r .failed) }
+makes p (tick s) k = let r = p .tick k s in record { controller = r .controller; answer = told (r .news) }
 makes p stop k = record { controller = p .stop k; answer = nothing }
-makes p (advance n) k = let r = p .advance k n in record { controller = r .controller; answer = failed (r .failed) }
-makes p (run n) k = let r = p .run k n in record { controller = r .ticked .controller; answer = used (r .ticked .failed) (r .used) }
+makes p (advance n s) k = let r = p .advance k n s in record { controller = r .controller; answer = told (r .news) }
+makes p (run n s) k = let r = p .run k n s in record { controller = r .ticked .controller; answer = used (r .ticked .news) (r .used) }
 
 -- it meets the contracts wherever their premise holds, and what it makes its types hold
 pub record Meets (p : Program) : Type 0 where
@@ -87,10 +88,10 @@ pub record Meets (p : Program) : Type 0 where
   pub fresh : (a : Address) → FreshEnsures a (p .fresh a)
   pub byte : (k : Controller) (b : ℕ) (l : Lent) → p .Holds k → p .Takes (byte b l) → Valid k → ByteEnsures k b l (p .byte k b l .reply) (p .byte k b l .left)
   pub listen : (k : Controller) (bytes : List ℕ) → p .Holds k → p .Takes (listen bytes) → ListenEnsures k bytes (p .listen k bytes)
-  pub tick : (k : Controller) → p .Holds k → p .Takes tick → Valid k → TickEnsures k (p .tick k)
+  pub tick : (k : Controller) (s : Sense) → p .Holds k → p .Takes (tick s) → Valid k → TickEnsures k s (p .tick k s)
   pub stop : (k : Controller) → p .Holds k → p .Takes stop → StopEnsures k (p .stop k)
-  pub advance : (k : Controller) (n : ℕ) → p .Holds k → p .Takes (advance n) → Valid k → AdvanceEnsures k n (p .advance k n)
-  pub run : (k : Controller) (n : ℕ) → p .Holds k → p .Takes (run n) → Valid k → RunEnsures k n (p .run k n)
+  pub advance : (k : Controller) (n : ℕ) (s : Sense) → p .Holds k → p .Takes (advance n s) → Valid k → AdvanceEnsures k n s (p .advance k n s)
+  pub run : (k : Controller) (n : ℕ) (s : Sense) → p .Holds k → p .Takes (run n s) → Valid k → RunEnsures k n s (p .run k n s)
   pub ready : (k : Controller) → p .Holds k → ReadyEnsures k (p .ready k)
   pub fresh-held : (a : Address) → p .Holds (p .fresh a)
   pub held : (c : Call) (k : Controller) → p .Holds k → p .Takes c → Valid k → p .Holds (makes p c k .controller)

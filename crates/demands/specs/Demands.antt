@@ -5,29 +5,33 @@ use mathlib.Core.Logic.{_⊎_}
 use mathlib.Core.Bool.{true, false}
 use mathlib.Core.List.{List, [], _∷_, _++_}
 use lib.ListN.{length, take, drop}
+use Rattle.basics.specs.Choice.{if_then_else_}
 use Rattle.basics.specs.Bytes.{every}
 use Rattle.basics.specs.Exactly.{Exactly}
 use Rattle.settings.specs.declared.Volume.{Volume}
 use Rattle.command.specs.declared.refusal.Refusal.{Refusal}
 use Rattle.command.specs.declared.refusal.Verdict.the-variants.{Fine, Refused}
 use Rattle.command.specs.declared.Command.{Command}
-use Rattle.command.specs.declared.Found.{Found}
-use Rattle.command.specs.declared.Found.the-variants as F
-use Rattle.command.specs.Command.{commandAt}
+use Rattle.command.specs.declared.Command.the-variants as C
+use Rattle.command.specs.Numbers.{verdictNumber}
+use Rattle.text.specs.declared.Question.the-variants as Q
+use Rattle.line.specs.declared.Report.the-variants.{Whole}
 use Rattle.line.specs.Wire.{dataByte}
+use Rattle.motion.specs.declared.Sense.{Sense}
 use Rattle.motion.specs.declared.Activity.{Activity}
-use Rattle.motion.specs.declared.Activity.the-variants.{Initialising, Between}
+use Rattle.motion.specs.declared.Activity.the-variants.{Initialising, Ejecting, Between}
 use Rattle.motion.specs.declared.Travel.{Travel}
 use Rattle.motion.specs.Events.{quiet, start, volume}
 use Rattle.buffer.specs.declared.course.State.the-variants.{Empty, Running}
 use Rattle.buffer.specs.Course.{failedOf}
-use Rattle.machine.specs.declared.Device.{Device}
 use Rattle.machine.specs.declared.Used.the-variants.{Ticks}
-use Rattle.machine.specs.Step.{core}
+use Rattle.machine.specs.Step.{core, news, noNews}
 use Rattle.machine.specs.Device.{device}
 use Rattle.machine.specs.History.{sumOf, IsSum, StandsBy, moving}
 use Rattle.machine.specs.OnCourse as OnCourse
-use Rattle.machine.specs.OnCourse.{Failing, Fault}
+use Rattle.machine.specs.OnCourse.{Cause, Fault}
+use Rattle.machine.specs.Tips.{Ejects, NoE}
+use Rattle.reports.specs.declared.Told.the-variants.{Says}
 use Rattle.pipettor.specs.declared.address.Address.{Address}
 use Rattle.pipettor.specs.declared.address.Address.the-variants.{One}
 use Rattle.pipettor.specs.declared.address.Given.the-variants.{Is}
@@ -37,7 +41,7 @@ use Rattle.pipettor.specs.declared.Said.the-variants.{Silent, Answer, S1}
 use Rattle.pipettor.specs.Address.{addressOf}
 use Rattle.pipettor.specs.Valid.{Valid}
 use Rattle.pipettor.specs.Byte as Byte
-use Rattle.pipettor.specs.Byte.{byteOf}
+use Rattle.pipettor.specs.Byte.{toldOf, byteOf}
 use Rattle.pipettor.specs.Controller.{on, tickedOf, stoppedOf, advancedOf, runOf, readyIs}
 use Rattle.demands.specs.Calls.{Call, after, history, answers}
 use Rattle.demands.specs.Values.{number, S, saidIs, givenIs, usedIs}
@@ -47,11 +51,17 @@ use Rattle.demands.specs.Contracts.{Program, Meets, TakesAll, leftBy, an
 
 -- 1. Every call is answered, and refuses as 01's table says.
 -- a run's count of ticks: no more than allowed, not ready before so many, and ready after them where fewer than allowed are used
-pub record Counted (n : ℕ) (k : Controller) (count : ℕ) : Type 0 where
-  pub run : runOf n k ≡ record { ticked = advancedOf count k; used = Ticks count }
+pub record Counted (n : ℕ) (s : Sense) (k : Controller) (count : ℕ) : Type 0 where
+  pub run : runOf n s k ≡ record { ticked = advancedOf count s k; used = Ticks count }
   pub within : count ≤ n
-  pub busy-before : (i : ℕ) → i < count → readyIs (advancedOf i k .controller) ≡ false
-  pub ready-after : count < n → readyIs (advancedOf count k .controller) ≡ true
+  pub busy-before : (i : ℕ) → i < count → readyIs (advancedOf i s k .controller) ≡ false
+  pub ready-after : count < n → readyIs (advancedOf count s k .controller) ≡ true
+
+-- one of so many ticks asks the host to eject
+pub record AsksWithin (n : ℕ) (s : Sense) (k : Controller) : Type 0 where
+  pub tick : ℕ
+  pub before : tick < n
+  pub asks : tickedOf s (advancedOf tick s k .controller) .next .news .eject ≡ true
 
 -- what a byte leaves of the buffer: "A silent byte and an S refusal write nothing to the answer buffer. Bytes after an answer's end stay as they were."
 abbrev pub Written : Said → List ℕ → List ℕ → Type 0
@@ -59,9 +69,13 @@ Written Silent before after = after ≡ before
 Written S1 before after = after ≡ before
 Written (Answer n) before after = (n ≤ 20) × (length after ≡ length before) × (drop n after ≡ drop n before)
 
--- what stands at the place that a run has reached
-abbrev pub nextCommand : Device → Found
-nextCommand d = commandAt (take (d .core .course .len) (d .text)) (d .core .course .at)
+-- the next tick takes a command
+abbrev pub Takes : Controller → Command → Type 0
+Takes k command = OnCourse.Takes (k .device .text) (k .device .core) command
+
+-- why a run fails in the next tick
+abbrev pub CauseIn : Sense → Controller → Refusal → Type 0
+CauseIn s k why = Cause (k .device .text) s (k .device .core) why
 
 -- of a controller:
 pub record Answers (k : Controller) : Type 0 where
@@ -74,25 +88,37 @@ pub record Answers (k : Controller) : Type 0 where
   -- the bytes of a frame to us, whatever its data: it gets each number exactly where 01's table gives it, and leaves what the table says
   pub a-frame-is-treated-by-the-table : (ds buf : List ℕ) → every dataByte ds ≡ true → 32 ≤ length buf → Treated ds (k .address) (k .device) buf (frameSeen k ds buf)
   -- "S3: more than 60000 ticks asked of a run: nothing changed"
-  pub a-long-run-is-S3 : (n : ℕ) → Exactly (usedIs (runOf n k .used) ≡ S 3) (60000 < n)
-  pub S3-changes-nothing : (n : ℕ) → 60000 < n → runOf n k .ticked ≡ record { controller = k; failed = Fine }
+  pub a-long-run-is-S3 : (n : ℕ) (s : Sense) → Exactly (usedIs (runOf n s k .used) ≡ S 3) (60000 < n)
+  pub S3-changes-nothing : (n : ℕ) (s : Sense) → 60000 < n → runOf n s k .ticked ≡ record { controller = k; news = noNews }
   -- any other is counted: "the answer says how many ticks it used"
-  pub a-run-counts-its-ticks : (n : ℕ) → n ≤ 60000 → (count : ℕ) × Counted n k count
+  pub a-run-counts-its-ticks : (n : ℕ) (s : Sense) → n ≤ 60000 → (count : ℕ) × Counted n s k count
   -- no tick meets a command that doesn't read, nor a fifth loop, nor a G whose g isn't the innermost that the run holds open
   pub a-run-meets-a-command : k .device .core .course .state ≡ Running Between → OnCourse.Meets (k .device .text) (k .device .core .course)
-  -- a tick in which a run fails takes A, P or D, and fails by 7 where the plunger is not initialised, else by 3 where v is above V (02, W-205), else by 3 for a goal outside travel, and in no other way;
-  -- it sets the last error, erases the text, and changes nothing else
-  pub a-run-fails-by-7-or-3 :
-      (doing : Activity) → k .device .core .course .state ≡ Running doing → tickedOf k .next .controller .device .core .course .state ≡ Empty →
-      Fault (k .device .text) (k .device .core)
-  -- and where the next command must fail, the tick that takes it fails, with that refusal
-  pub a-command-that-must-fail-fails :
-      (command : Command) (next : ℕ) (why : Refusal) → k .device .core .course .state ≡ Running Between → nextCommand (k .device) ≡ F.Command command next →
-      Failing command (k .device .core .body) why →
-      tickedOf k .next ≡ record { controller = on (device (k .device .text) (core (k .device .core .body) (failedOf why (k .device .core .course)))) k; failed = Refused why }
+  -- a run that is erased in a tick fails in it, for a cause, and changes nothing but the last error, the text and the tip that is sensed
+  pub a-run-fails-for-a-cause :
+      (s : Sense) (doing : Activity) → k .device .core .course .state ≡ Running doing → tickedOf s k .next .controller .device .core .course .state ≡ Empty →
+      Fault (k .device .text) s (k .device .core)
+  -- each refusal exactly where there is its cause. A, P and D: 7 where the plunger is not initialised, else 3 where v is above V (02, W-205), else 3 for a goal outside travel.
+  -- 02, W-203: "10 for E0 without a tip; 7 for E1 uninitialised; 8 for a failed eject"
+  pub a-run-fails-exactly-for-a-cause : (s : Sense) (why : Refusal) → Exactly (tickedOf s k .next .news .failed ≡ Refused why) (CauseIn s k why)
+  pub ten-is-an-E0-without-a-tip : (s : Sense) → Exactly (verdictNumber (tickedOf s k .next .news .failed) ≡ 10) (Takes k (C.Eject false) × (s .tip ≡ false))
+  pub eight-is-a-tip-still-there : (s : Sense) → Exactly (verdictNumber (tickedOf s k .next .news .failed) ≡ 8) ((k .device .core .course .state ≡ Running Ejecting) × (s .tip ≡ true))
+  -- and what is left of it
+  pub a-run-that-fails-leaves :
+      (s : Sense) (why : Refusal) → CauseIn s k why →
+      tickedOf s k .next ≡ record { controller = on (device (k .device .text) (s .tip) (core (k .device .core .body) (failedOf why (k .device .core .course)))) k; news = news (Refused why) false }
+  -- 02, W-203: "The tick that takes it asks the host to eject (a run says if any tick did)": once for each E that is taken and not refused, and in no other tick
+  pub the-host-is-asked-once-for-each-E : (s : Sense) → Exactly (tickedOf s k .next .news .eject ≡ true) (Ejects (k .device .text) s (k .device .core))
+  pub ticks-ask-where-one-does : (n : ℕ) (s : Sense) → Exactly (advancedOf n s k .news .eject ≡ true) (AsksWithin n s k)
+  pub without-an-E-nothing-asks : (n : ℕ) (s : Sense) → NoE (take (k .device .core .course .len) (k .device .text)) → advancedOf n s k .news .eject ≡ false
+  -- "?31 reports the tip of the last tick, 0 before any; reset leaves it"
+  pub a-tick-brings-the-tip-sensed : (s : Sense) → tickedOf s k .next .controller .device .tip ≡ s .tip
+  pub no-byte-changes-the-tip : (b : ℕ) (buf : List ℕ) → byteOf k b buf .next .reply .controller .device .tip ≡ k .device .tip
+  pub the-stop-leaves-the-tip : stoppedOf k .next .device .tip ≡ k .device .tip
+  pub q31-tells-the-tip : toldOf (Q.Value 31) (k .address) (k .device .tip) (k .device .core) ≡ Says (Whole (if k .device .tip then 1 else 0))
   -- 02, W-202: "It is 0 after .. an error in a run"; no other tick changes it, nor the host's stop
-  pub an-error-in-a-run-has-no-column : (why : Refusal) → tickedOf k .next .failed ≡ Refused why → tickedOf k .next .controller .device .core .course .misread ≡ 0
-  pub any-other-tick-leaves-the-column : tickedOf k .next .failed ≡ Fine → tickedOf k .next .controller .device .core .course .misread ≡ k .device .core .course .misread
+  pub an-error-in-a-run-has-no-column : (s : Sense) (why : Refusal) → tickedOf s k .next .news .failed ≡ Refused why → tickedOf s k .next .controller .device .core .course .misread ≡ 0
+  pub any-other-tick-leaves-the-column : (s : Sense) → tickedOf s k .next .news .failed ≡ Fine → tickedOf s k .next .controller .device .core .course .misread ≡ k .device .core .course .misread
   pub the-stop-leaves-the-column : stoppedOf k .next .device .core .course .misread ≡ k .device .core .course .misread
   -- "a cut W leaves us uninitialised"
   pub a-cut-W-leaves-it-uninitialised : (t : Travel) → k .device .core .course .state ≡ Running (Initialising t) → stoppedOf k .next .device .core .body .initialised ≡ false

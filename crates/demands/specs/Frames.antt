@@ -19,7 +19,7 @@ use Rattle.pipettor.specs.Byte.{Exchange, byteOf}
 use Rattle.frames.specs.Frame.{addedOf, exchangeOf, Dialogue, givenOf, ToUs, Unheeded, Others}
 use Rattle.frames.specs.Refused.{refusalOf, isReport, Replied, Refused, Unchanged, Known, WrongLetter, WrongNumber, NothingNow, TooMuchNow, Columned}
 use Rattle.frames.specs.Listening.{ByteByByte}
-use Rattle.demands.specs.Calls.{lent, Call, byte, Answered, said, taken, failed, used, nothing, afterOf, eventsOf, answersOf, after, history, answers}
+use Rattle.demands.specs.Calls.{lent, Call, byte, Answered, said, taken, told, used, nothing, afterOf, eventsOf, answersOf, after, history, answers}
 use Rattle.demands.specs.Contracts.{Program, leftBy, answeredBy}
 
 -- what is seen of bytes once all are given: the device, what the last one says, and the buffer; with what they add to the history
@@ -82,7 +82,7 @@ abbrev pub spoken : List Answered → List Said
 spoken [] = []
 spoken (said s buf ∷ l) = s ∷ spoken l
 spoken (taken n ∷ l) = spoken l
-spoken (failed v ∷ l) = spoken l
+spoken (told v ∷ l) = spoken l
 spoken (used v u ∷ l) = spoken l
 spoken (nothing ∷ l) = spoken l
 
@@ -90,7 +90,7 @@ abbrev pub lentLast : List ℕ → List Answered → List ℕ
 lentLast buf [] = buf
 lentLast buf (said s left ∷ l) = lentLast (left .buffer) l
 lentLast buf (taken n ∷ l) = lentLast buf l
-lentLast buf (failed v ∷ l) = lentLast buf l
+lentLast buf (told v ∷ l) = lentLast buf l
 lentLast buf (used v u ∷ l) = lentLast buf l
 lentLast buf (nothing ∷ l) = lentLast buf l
 

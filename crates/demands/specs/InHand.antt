@@ -53,10 +53,10 @@ handsOf h (b ∷ bs) = handsOf (handOf h b) bs
 abbrev pub broughtBy : Call → List ℕ
 broughtBy (byte b l) = if ltb (length (l .buffer)) 32 then [] else b ∷ []
 broughtBy (listen bytes) = beforeCr bytes
-broughtBy tick = []
+broughtBy (tick s) = []
 broughtBy stop = []
-broughtBy (advance n) = []
-broughtBy (run n) = []
+broughtBy (advance n s) = []
+broughtBy (run n s) = []
 
 -- all that calls bring, first to last, and what they leave in hand from making on
 unfoldable pub brought : List Call → List ℕ

@@ -9,3 +9,4 @@ pub mod Script
 pub mod Texts
 pub mod Records
 pub mod Parts
+pub mod Tips

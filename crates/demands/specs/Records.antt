@@ -10,10 +10,10 @@ use Rattle.command.specs.declared.Way.{Way}
 use Rattle.command.specs.declared.Way.the-variants.{To, Up, Down}
 use Rattle.command.specs.declared.Command.{Command}
 use Rattle.command.specs.declared.Command.the-variants as C
-use Rattle.command.specs.declared.Found.the-variants as F
 use Rattle.text.specs.declared.Control.the-variants.{Stop, Reset}
 use Rattle.text.specs.declared.Data.the-variants as D
 use Rattle.text.specs.Data.{receivedOf}
+use Rattle.motion.specs.declared.Sense.{Sense}
 use Rattle.motion.specs.declared.Activity.the-variants.{Between}
 use Rattle.motion.specs.declared.Target.the-variants.{At}
 use Rattle.motion.specs.Events.{start, volume}
@@ -26,13 +26,7 @@ use Rattle.pipettor.specs.declared.Controller.{Controller}
 use Rattle.pipettor.specs.Controller.{tickedOf, stoppedOf}
 use Rattle.frames.specs.Frame.{exchangeOf}
 use Rattle.demands.specs.Calls.{Call, after, history}
-use Rattle.demands.specs.Demands.{nextCommand}
-
--- the next tick takes a command
-pub record Takes (k : Controller) (command : Command) : Type 0 where
-  pub between : k .device .core .course .state ≡ Running Between
-  pub next : ℕ
-  pub found : nextCommand (k .device) ≡ F.Command command next
+use Rattle.demands.specs.Demands.{Takes}
 
 -- a volume in millionths, "at the compensation then in force"
 abbrev pub asked : Controller → Volume → ℕ
@@ -55,6 +49,7 @@ MovesNothing (C.Slopes up down) = Unit {0}
 MovesNothing (C.Backlash n) = Unit {0}
 MovesNothing (C.Compensate n down) = Unit {0}
 MovesNothing (C.Delay ms) = Unit {0}
+MovesNothing (C.Eject bare) = Unit {0}
 MovesNothing C.Open = Unit {0}
 MovesNothing (C.Close n) = Unit {0}
 
@@ -62,17 +57,17 @@ MovesNothing (C.Close n) = Unit {0}
 abbrev pub plungerAt : Controller → ℕ
 plungerAt k = k .device .core .body .plunger * 1000000
 
-pub record Records (k : Controller) : Type 0 where
+pub record Records (s : Sense) (k : Controller) : Type 0 where
   -- "A fresh controller and initialising start it at 0"
-  pub W-starts-it-at-0 : (speed : ℕ) → Takes k (C.Initialise speed) → tickedOf k .events ≡ start 0 ∷ []
+  pub W-starts-it-at-0 : (speed : ℕ) → Takes k (C.Initialise speed) → tickedOf s k .events ≡ start 0 ∷ []
   -- "an absolute move at the exact place asked for"
-  pub A-starts-it-at-the-place-asked-for : (v : Volume) → CarriedOut k To v → tickedOf k .events ≡ start (asked k v) ∷ []
+  pub A-starts-it-at-the-place-asked-for : (v : Volume) → CarriedOut k To v → tickedOf s k .events ≡ start (asked k v) ∷ []
   -- "plus all aspirations less all dispenses carried out since, each volume at the compensation then in force"
-  pub P-adds-its-volume : (v : Volume) → CarriedOut k Up v → tickedOf k .events ≡ volume v (k .device .core .body .settings .rate) true ∷ []
-  pub D-takes-its-volume-away : (v : Volume) → CarriedOut k Down v → tickedOf k .events ≡ volume v (k .device .core .body .settings .rate) false ∷ []
-  pub a-command-that-fails-adds-nothing : (command : Command) (why : Refusal) → Takes k command → Failing command (k .device .core .body) why → tickedOf k .events ≡ []
-  pub any-other-command-adds-nothing : (command : Command) → Takes k command → MovesNothing command → tickedOf k .events ≡ []
-  pub a-tick-that-takes-no-command-adds-nothing : (k .device .core .course .state ≡ Running Between → ⊥) → tickedOf k .events ≡ []
+  pub P-adds-its-volume : (v : Volume) → CarriedOut k Up v → tickedOf s k .events ≡ volume v (k .device .core .body .settings .rate) true ∷ []
+  pub D-takes-its-volume-away : (v : Volume) → CarriedOut k Down v → tickedOf s k .events ≡ volume v (k .device .core .body .settings .rate) false ∷ []
+  pub a-command-that-fails-adds-nothing : (command : Command) (why : Refusal) → Takes k command → Failing s command (k .device .core .body) why → tickedOf s k .events ≡ []
+  pub any-other-command-adds-nothing : (command : Command) → Takes k command → MovesNothing command → tickedOf s k .events ≡ []
+  pub a-tick-that-takes-no-command-adds-nothing : (k .device .core .course .state ≡ Running Between → ⊥) → tickedOf s k .events ≡ []
   -- "a stop that cuts a movement or a reset at the plunger"; "T without movement doesn't touch it"
   pub a-cut-starts-it-at-the-plunger : moving (k .device .core .course .state) ≡ true → stoppedOf k .events ≡ start (plungerAt k) ∷ []
   pub a-stop-without-movement-adds-nothing : moving (k .device .core .course .state) ≡ false → stoppedOf k .events ≡ []
@@ -84,4 +79,4 @@ pub record Records (k : Controller) : Type 0 where
 
 pub record Recording : Type 0 where
   pub making-starts-it-at-0 : (a : Address) → history a [] ≡ start 0 ∷ []
-  pub calling : (a : Address) (calls : List Call) → Records (after a calls)
+  pub calling : (a : Address) (calls : List Call) (s : Sense) → Records s (after a calls)

@@ -8,28 +8,34 @@ use lib.ListN.{take, drop, replicate}
 use Rattle.basics.specs.Choice.{if_then_else_}
 use Rattle.basics.specs.Bytes.{chars}
 use Rattle.line.specs.Wire.{framed}
+use Rattle.motion.specs.declared.Sense.{Sense}
 use Rattle.machine.specs.declared.Used.the-variants.{Ticks, S3}
 use Rattle.pipettor.specs.declared.address.Address.the-variants.{One}
 use Rattle.pipettor.specs.declared.Controller.{Controller}
 use Rattle.pipettor.specs.declared.Said.{Said}
 use Rattle.pipettor.specs.declared.Said.the-variants.{Silent, Answer, S1}
 use Rattle.demands.specs.Calls as Calls
-use Rattle.demands.specs.Calls.{lent, Call, byte, advance, run, Answered, said, taken, failed, used, nothing}
+use Rattle.demands.specs.Calls.{lent, Call, byte, advance, run, Answered, said, taken, told, used, nothing}
 use Rattle.demands.specs.Contracts.{Program, TakesAll, leftBy, answeredBy}
 
 -- a frame to address 1 and what it answers, status byte and data; so many ticks, and where the plunger and the exact position then are;
--- a run of at most so many ticks, and how many it says it used
-infix 68 _answers_ _ticks_exact_ _run-uses_
+-- a run of at most so many ticks, and how many it says it used; and so many ticks with a tip or without one, and whether they ask the host to eject
+infix 68 _answers_ _ticks_exact_ _run-uses_ _ticks-with_ask_
 pub data Line : Type 0 where
   _answers_ : String → String → Line
   _ticks_exact_ : ℕ → ℕ → ℕ → Line
   _run-uses_ : ℕ → ℕ → Line
+  _ticks-with_ask_ : ℕ → Bool → Bool → Line
+
+abbrev pub sensing : Bool → Sense
+sensing t = record { tip = t }
 
 -- its calls: byte after byte, each with a buffer of 32 bytes lent; ticks; a run
 abbrev pub callsOf : Line → List Call
 callsOf (text answers reply) = map (λ (b : ℕ). byte b (lent (replicate 32 0))) (framed 49 (chars text))
-callsOf (n ticks place exact millionths) = advance n ∷ []
-callsOf (n run-uses count) = run n ∷ []
+callsOf (n ticks place exact millionths) = advance n (sensing false) ∷ []
+callsOf (n run-uses count) = run n (sensing false) ∷ []
+callsOf (n ticks-with tip ask asked) = advance n (sensing tip) ∷ []
 
 -- status byte and data of an answer: without `/`, `0` in front and 03h, CR, LF behind
 abbrev pub dataIn : Said → List ℕ → List ℕ
@@ -37,10 +43,13 @@ dataIn Silent buf = []
 dataIn (Answer n) buf = take (n - 5) (drop 2 buf)
 dataIn S1 buf = []
 
+abbrev flag : Bool → ℕ
+flag b = if b then 1 else 0
+
 abbrev pub dataOf : Answered → List ℕ
 dataOf (said s l) = dataIn s (l .buffer)
 dataOf (taken n) = n ∷ []
-dataOf (failed v) = []
+dataOf (told v) = flag (v .eject) ∷ []
 dataOf (used v (Ticks n)) = n ∷ []
 dataOf (used v S3) = []
 dataOf nothing = []
@@ -64,13 +73,15 @@ program p = record { left = λ calls. leftBy p calls (p .fresh One); back = λ c
 -- what is seen of a line after earlier calls: the answer to the last byte or to the run; or the plunger and the exact position
 unfoldable pub seen : Player → List Call → Line → List ℕ
 seen player calls (text answers reply) = lastOf (player .back (calls ++ callsOf (text answers reply)))
-seen player calls (n ticks place exact millionths) = let b = player .left (calls ++ advance n ∷ []) .device .core .body in b .plunger ∷ b .exact ∷ []
-seen player calls (n run-uses count) = lastOf (player .back (calls ++ run n ∷ []))
+seen player calls (n ticks place exact millionths) = let b = player .left (calls ++ advance n (sensing false) ∷ []) .device .core .body in b .plunger ∷ b .exact ∷ []
+seen player calls (n run-uses count) = lastOf (player .back (calls ++ run n (sensing false) ∷ []))
+seen player calls (n ticks-with tip ask asked) = lastOf (player .back (calls ++ advance n (sensing tip) ∷ []))
 
 abbrev pub expected : Line → List ℕ
 expected (text answers reply) = chars reply
 expected (n ticks place exact millionths) = place ∷ millionths ∷ []
 expected (n run-uses count) = count ∷ []
+expected (n ticks-with tip ask asked) = flag asked ∷ []
 
 abbrev pub same : List ℕ → List ℕ → Bool
 same [] [] = true

@@ -25,7 +25,7 @@ use Rattle.operand.proofs.Runs.{run-rest, run-digits, run-all}
 use Rattle.desk.specs.declared.Desk.{Desk}
 use Rattle.desk.specs.declared.Desk.the-variants.{Bench, Rig}
 use Rattle.desk.specs.declared.Quantity.{Quantity}
-use Rattle.desk.specs.declared.Quantity.the-variants.{Ticks, Run, Lend, New}
+use Rattle.desk.specs.declared.Quantity.the-variants.{Ticks, Run, Lend, New, Tip}
 use Rattle.desk.specs.declared.Word.{Word}
 use Rattle.desk.specs.declared.Word.the-variants as W
 use Rattle.desk.specs.declared.Asked.{Asked}
@@ -34,7 +34,7 @@ use Rattle.desk.specs.declared.Count.{Count}
 use Rattle.desk.specs.declared.Count.the-variants.{Is, Not}
 use Rattle.desk.specs.Counts.{wholeOf, countOf}
 use Rattle.desk.specs.Hex.{paired, bytesIn, hexOf}
-use Rattle.desk.specs.Desk.{spelled, begins, wordOf, knows, leastOf, mostOf, allowed, ranged, behind, formOf, askedOf}
+use Rattle.desk.specs.Desk.{spelled, begins, numberWord, wordOf, knows, leastOf, mostOf, allowed, ranged, behind, formOf, askedOf}
 use Rattle.desk.specs.Forms.{Clean, Counts, Sends, Gives, Stops, small, Raws}
 use Rattle.desk.proofs.Words.{word-heads}
 use Rattle.desk.proofs.Written.{Read, written-is-read, read-is-written}
@@ -184,12 +184,13 @@ word W.Raw = true
 word W.Other = false
 
 word-first : (w : Word) (u : List ℕ) → word w ≡ true → wordOf (spelled w ++ u) ≡ w
-unfolding wordOf begins
+unfolding wordOf numberWord begins
 word-first W.Frame u h = refl
 word-first (W.Number Ticks) u h = refl
 word-first (W.Number Run) u h = refl
 word-first (W.Number Lend) u h = refl
 word-first (W.Number New) u h = refl
+word-first (W.Number Tip) u h = refl
 word-first W.Stop u h = refl
 word-first W.Raw u h = refl
 word-first W.Other u h = absurd (false≢true h)

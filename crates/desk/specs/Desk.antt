@@ -11,7 +11,7 @@ use Rattle.line.specs.Wire.{printable}
 use Rattle.desk.specs.declared.Desk.{Desk}
 use Rattle.desk.specs.declared.Desk.the-variants.{Bench, Rig}
 use Rattle.desk.specs.declared.Quantity.{Quantity}
-use Rattle.desk.specs.declared.Quantity.the-variants.{Ticks, Run, Lend, New}
+use Rattle.desk.specs.declared.Quantity.the-variants.{Ticks, Run, Lend, New, Tip}
 use Rattle.desk.specs.declared.Word.{Word}
 use Rattle.desk.specs.declared.Word.the-variants as W
 use Rattle.desk.specs.declared.Asked.{Asked}
@@ -28,6 +28,7 @@ spelled (W.Number Ticks) = chars "t "
 spelled (W.Number Run) = chars "run "
 spelled (W.Number Lend) = chars "lend "
 spelled (W.Number New) = chars "new "
+spelled (W.Number Tip) = chars "tip "
 spelled W.Stop = chars "stop"
 spelled W.Raw = chars "x "
 spelled W.Other = []
@@ -37,16 +38,22 @@ begins [] t = true
 begins (a ∷ w) [] = false
 begins (a ∷ w) (b ∷ t) = eqb a b && begins w t
 
-unfoldable pub wordOf : List ℕ → Word
-wordOf t =
-    if begins (spelled W.Frame) t then W.Frame
-    else if begins (spelled (W.Number Ticks)) t then W.Number Ticks
+-- none of the words begins with another
+unfoldable pub numberWord : List ℕ → Word
+numberWord t =
+    if begins (spelled (W.Number Ticks)) t then W.Number Ticks
     else if begins (spelled (W.Number Run)) t then W.Number Run
     else if begins (spelled (W.Number Lend)) t then W.Number Lend
     else if begins (spelled (W.Number New)) t then W.Number New
+    else if begins (spelled (W.Number Tip)) t then W.Number Tip
+    else W.Other
+
+unfoldable pub wordOf : List ℕ → Word
+wordOf t =
+    if begins (spelled W.Frame) t then W.Frame
     else if begins (spelled W.Stop) t then W.Stop
     else if begins (spelled W.Raw) t then W.Raw
-    else W.Other
+    else numberWord t
 
 -- the bench program has two forms of lines: "`> ` and text", "`t n`"
 abbrev pub knows : Desk → Word → Bool
@@ -55,23 +62,26 @@ knows Bench (W.Number Ticks) = true
 knows Bench (W.Number Run) = false
 knows Bench (W.Number Lend) = false
 knows Bench (W.Number New) = false
+knows Bench (W.Number Tip) = false
 knows Bench W.Stop = false
 knows Bench W.Raw = false
 knows Bench W.Other = false
 knows Rig w = true
 
--- "1 to 60000"; "0 to 64"; any other number has at most 6 digits
+-- "1 to 60000"; "0 to 64"; a tip is 0 or 1; any other number has at most 6 digits
 abbrev pub leastOf : Quantity → ℕ
 leastOf Ticks = 1
 leastOf Run = 0
 leastOf Lend = 0
 leastOf New = 0
+leastOf Tip = 0
 
 abbrev pub mostOf : Quantity → ℕ
 mostOf Ticks = 60000
 mostOf Run = 999999
 mostOf Lend = 64
 mostOf New = 999999
+mostOf Tip = 1
 
 unfoldable pub allowed : Quantity → ℕ → Bool
 allowed q n = leb (leastOf q) n && leb n (mostOf q)

@@ -32,7 +32,7 @@ pub record Counts (digits : List ℕ) (n : ℕ) : Type 0 where
   pub no-leading-zero : getD digits 0 0 ≡ zeroDigit → length digits ≡ 1
   pub number : valueOf digits ≡ n
 
--- `t n`, at both; `run n`, `lend n`, `new n`, at the rig: a number in its range
+-- `t n`, at both; `run n`, `lend n`, `new n`, `tip n`, at the rig: a number in its range
 pub record Gives (desk : Desk) (t : List ℕ) (q : Quantity) (n : ℕ) : Type 0 where
   pub known : knows desk (Number q) ≡ true
   pub clean : Clean t

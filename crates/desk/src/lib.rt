@@ -7,7 +7,7 @@ ghost use Rattle.line.specs.Wire.{printable};
 ghost use Rattle.basics.specs.Bytes.{every};
 ghost use lib.ListN.{length};
 ghost use Rattle.desk.specs.Counts.{wholeOf, countOf};
-ghost use Rattle.desk.specs.Desk.{spelled, begins, wordOf, knows, leastOf, mostOf, allowed, ranged, behind, formOf, askedOf, printedOf, LineEnd};
+ghost use Rattle.desk.specs.Desk.{spelled, begins, numberWord, wordOf, knows, leastOf, mostOf, allowed, ranged, behind, formOf, askedOf, printedOf, LineEnd};
 
 // Whose lines: the bench program's, or the rig's, which are those and more.
 pub enum Desk {
@@ -15,12 +15,13 @@ pub enum Desk {
     Rig,
 }
 
-// What a number in a line counts: ticks that pass, ticks that a run may take, bytes of the answer buffers, an address.
+// What a number in a line counts: ticks that pass, ticks that a run may take, bytes of the answer buffers, an address, a tip.
 pub enum Quantity {
     Ticks,
     Run,
     Lend,
     New,
+    Tip,
 }
 
 // How a line begins.
@@ -78,12 +79,10 @@ fn starts(t: &[u8], word: &[u8]) -> bool
     true
 }
 
-fn word_of(t: &[u8]) -> Word
-    ensures { λ r. ⌜ r ≡ wordOf (now (t .entry)) ⌝ }
+// The words that a number follows.
+fn number_word(t: &[u8]) -> Word
+    ensures { λ r. ⌜ r ≡ numberWord (now (t .entry)) ⌝ }
 {
-    if starts(t, b"> ") {
-        return Word::Frame;
-    }
     if starts(t, b"t ") {
         return Word::Number(Quantity::Ticks);
     }
@@ -96,13 +95,25 @@ fn word_of(t: &[u8]) -> Word
     if starts(t, b"new ") {
         return Word::Number(Quantity::New);
     }
+    if starts(t, b"tip ") {
+        return Word::Number(Quantity::Tip);
+    }
+    Word::Other
+}
+
+fn word_of(t: &[u8]) -> Word
+    ensures { λ r. ⌜ r ≡ wordOf (now (t .entry)) ⌝ }
+{
+    if starts(t, b"> ") {
+        return Word::Frame;
+    }
     if starts(t, b"stop") {
         return Word::Stop;
     }
     if starts(t, b"x ") {
         return Word::Raw;
     }
-    Word::Other
+    number_word(t)
 }
 
 impl Quantity {
@@ -114,6 +125,7 @@ impl Quantity {
             Quantity::Run => 4,
             Quantity::Lend => 5,
             Quantity::New => 4,
+            Quantity::Tip => 4,
         }
     }
 
@@ -125,6 +137,7 @@ impl Quantity {
             Quantity::Run => false,
             Quantity::Lend => false,
             Quantity::New => false,
+            Quantity::Tip => false,
         }
     }
 
@@ -136,6 +149,7 @@ impl Quantity {
             Quantity::Run => 0,
             Quantity::Lend => 0,
             Quantity::New => 0,
+            Quantity::Tip => 0,
         }
     }
 
@@ -147,6 +161,7 @@ impl Quantity {
             Quantity::Run => 999_999,
             Quantity::Lend => 64,
             Quantity::New => 999_999,
+            Quantity::Tip => 1,
         }
     }
 

@@ -14,6 +14,7 @@ use Rattle.basics.proofs.Choice.{by}
 use Rattle.motion.specs.Events.{Turn, quiet}
 use Rattle.machine.specs.declared.Used.the-variants.{S3}
 use Rattle.machine.specs.declared.Ran as Machine
+use Rattle.motion.specs.declared.Sense.{Sense}
 use Rattle.machine.specs.Device.{ranOf}
 use Rattle.pipettor.specs.declared.address.Address.{Address}
 use Rattle.pipettor.specs.declared.address.Given.{Given}
@@ -84,14 +85,14 @@ module _ (n : ℕ) where
   an-address-outside-1-to-9-is-s2 = record { only = only-s2; always = always-s2 }
 
 -- "S3: more than 60000 ticks asked of a run: nothing changed"
-module _ (n : ℕ) (k : Controller) where
-  pub more-than-60000-ticks-are-s3 : Exactly (runOf n k .used ≡ S3) (60000 < n)
+module _ (n : ℕ) (s : Sense) (k : Controller) where
+  pub more-than-60000-ticks-are-s3 : Exactly (runOf n s k .used ≡ S3) (60000 < n)
   unfolding runOf ranOf
   more-than-60000-ticks-are-s3 = record {
     only = by (λ (r : Machine.Ran). r .used ≡ S3 → 60000 < n) (ltb 60000 n) (λ h e. ltb-true 60000 n h) (λ h e. let z : _≡_ {A = ℕ} 0 1 = cc in absurd (omega arith));
     always = λ h. rw (lt-ltb 60000 n h);
   }
 
-  pub s3-changes-nothing : 60000 < n → runOf n k .ticked .controller ≡ k
+  pub s3-changes-nothing : 60000 < n → runOf n s k .ticked .controller ≡ k
   unfolding runOf ranOf
   s3-changes-nothing h = rw (lt-ltb 60000 n h)

@@ -39,6 +39,7 @@ named L.Slopes = true
 named L.Backlash = true
 named L.Compensation = true
 named L.Delay = true
+named L.Eject = true
 named L.Open = true
 named L.Close = true
 named L.Other = false
@@ -61,8 +62,9 @@ named-are-the-letters b =
     (one-of (eqb b 75) _ _ _ refl
     (one-of (eqb b 98) _ _ _ refl
     (one-of (eqb b 77) _ _ _ refl
+    (one-of (eqb b 69) _ _ _ refl
     (one-of (eqb b 103) _ _ _ refl
-    (one-of (eqb b 71) _ _ _ refl refl))))))))))))
+    (one-of (eqb b 71) _ _ _ refl refl)))))))))))))
 
 -- a letter of the table makes a command or refuses its operand text; no other does
 abbrev lettered : Formed → Bool
@@ -95,6 +97,7 @@ lettered-as-named L.Slopes t = lettered-two _ _ _ _
 lettered-as-named L.Backlash t = lettered-one _ _ _
 lettered-as-named L.Compensation t = lettered-two _ _ _ _
 lettered-as-named L.Delay t = lettered-one _ _ _
+lettered-as-named L.Eject t = lettered-one _ _ _
 lettered-as-named L.Open [] = refl
 lettered-as-named L.Open (b ∷ t) = refl
 lettered-as-named L.Close t = lettered-one _ _ _

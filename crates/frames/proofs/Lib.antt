@@ -15,3 +15,4 @@ pub mod Grammar
 pub mod Strings
 pub mod Shaping
 pub mod Columns
+pub mod Tips

@@ -121,8 +121,8 @@ module _ (added : List ℕ) (a : Address) (d : Device) where
     replied : (x : Data) → Replied x (number x) a d buf (does x)
     unfolding dealtOf numberFor taskOf performedOf actOf outcomeOf saidOf writtenOf
     replied (D.Report q) = record {
-      said = told-said (d .core .course .error) (readyOf (d .core)) (toldOf q a (d .core));
-      buffer = told-written (d .core .course .error) (readyOf (d .core)) (toldOf q a (d .core)) buf;
+      said = told-said (d .core .course .error) (readyOf (d .core)) (toldOf q a (d .tip) (d .core));
+      buffer = told-written (d .core .course .error) (readyOf (d .core)) (toldOf q a (d .tip) (d .core)) buf;
     }
     replied D.WrongReport = record { said = refl; buffer = refl }
     replied (D.Control c) = record { said = refl; buffer = refl }
@@ -135,17 +135,17 @@ module _ (added : List ℕ) (a : Address) (d : Device) where
     unfolding dealtOf performedOf actOf actedOf storedBy
     left-by x y no-report is h =
         let (why, e) = another-has-a-reason (verdictFor x added d) h in
-        record { text = rw (is, e); core = rw (is, e) (sym (no-report (refusalNumber why))); events = rw (is, e) }
+        record { text = rw (is, e); tip = rw is; core = rw (is, e) (sym (no-report (refusalNumber why))); events = rw (is, e) }
 
     left : (x : Data) → (number x ≡ 0 → ⊥) → Refused x (number x) d (does x)
     unfolding dealtOf numberFor taskOf performedOf
-    left (D.Report q) h = record { text = refl; core = refl; events = refl }
-    left D.WrongReport h = record { text = refl; core = refl; events = refl }
+    left (D.Report q) h = record { text = refl; tip = refl; core = refl; events = refl }
+    left D.WrongReport h = record { text = refl; tip = refl; core = refl; events = refl }
     left (D.Control c) h = left-by (actionOf c) (D.Control c) (λ n. refl) refl h
     left (D.Text n run) h = left-by (stringAction run) (D.Text n run) (λ m. refl) refl h
-    left (D.Wrong (Letter place)) h = record { text = refl; core = refl; events = refl }
-    left (D.Wrong (Operand place read)) h = record { text = refl; core = refl; events = refl }
-    left D.TooLong h = record { text = refl; core = refl; events = refl }
+    left (D.Wrong (Letter place)) h = record { text = refl; tip = refl; core = refl; events = refl }
+    left (D.Wrong (Operand place read)) h = record { text = refl; tip = refl; core = refl; events = refl }
+    left D.TooLong h = record { text = refl; tip = refl; core = refl; events = refl }
 
     untouched : (x : Data) → isReport x ≡ true → Unchanged d (does x)
     unfolding dealtOf taskOf performedOf
@@ -173,7 +173,7 @@ module _ (added : List ℕ) (a : Address) (d : Device) where
   -- which number
   only-14 : (x : Data) → number x ≡ 14 → NothingNow (d .core .course .state) x
   unfolding numberFor
-  only-14 (D.Report q) e = not-told 14 (toldOf q a (d .core)) e (λ h. omega arith) (λ h. omega arith)
+  only-14 (D.Report q) e = not-told 14 (toldOf q a (d .tip) (d .core)) e (λ h. omega arith) (λ h. omega arith)
   only-14 D.WrongReport e = absurd (omega arith)
   only-14 (D.Control c) e = nothing c (nothing-to-run-is-14 (actionOf c) added d .only e)
   only-14 (D.Text n run) e = absurd (no-string run (columnOf (d .core .course .state)) (nothing-to-run-is-14 (stringAction run) added d .only e))
@@ -187,7 +187,7 @@ module _ (added : List ℕ) (a : Address) (d : Device) where
 
   only-15 : (x : Data) → number x ≡ 15 → TooMuchNow a d added x
   unfolding numberFor
-  only-15 (D.Report q) e = not-told 15 (toldOf q a (d .core)) e (λ h. omega arith) (λ h. omega arith)
+  only-15 (D.Report q) e = not-told 15 (toldOf q a (d .tip) (d .core)) e (λ h. omega arith) (λ h. omega arith)
   only-15 D.WrongReport e = absurd (omega arith)
   only-15 (D.Control c) e = control c (busy-or-too-long-is-15 (actionOf c) added d .only e)
   only-15 (D.Text n run) e = text n run (busy-or-too-long-is-15 (stringAction run) added d .only e)
@@ -203,7 +203,7 @@ module _ (added : List ℕ) (a : Address) (d : Device) where
 
   known : (x : Data) → Known (number x)
   unfolding numberFor
-  known (D.Report q) = known-told (toldOf q a (d .core))
+  known (D.Report q) = known-told (toldOf q a (d .tip) (d .core))
   known D.WrongReport = inr (inr (inl refl))
   known (D.Control c) = known-buffer _ (no-other-refusal (actionOf c) added d)
   known (D.Text n run) = known-buffer _ (no-other-refusal (stringAction run) added d)
@@ -221,7 +221,7 @@ module _ (ds : List ℕ) (a : Address) (d : Device) where
 
   only-2 : (x : Data) → receivedOf ds ≡ x → gets x ≡ 2 → WrongLetter ds
   unfolding numberFor
-  only-2 (D.Report q) is e = not-told 2 (toldOf q a (d .core)) e (λ h. omega arith) (λ h. omega arith)
+  only-2 (D.Report q) is e = not-told 2 (toldOf q a (d .tip) (d .core)) e (λ h. omega arith) (λ h. omega arith)
   only-2 D.WrongReport is e = absurd (omega arith)
   only-2 (D.Control c) is e = never-2 (addedOf ds) d (actionOf c) e
   only-2 (D.Text n run) is e = never-2 (addedOf ds) d (stringAction run) e
@@ -231,7 +231,7 @@ module _ (ds : List ℕ) (a : Address) (d : Device) where
 
   only-3 : (x : Data) → receivedOf ds ≡ x → gets x ≡ 3 → WrongNumber a d ds
   unfolding numberFor
-  only-3 (D.Report q) is e = report-number q is (refused-3 (toldOf q a (d .core)) e)
+  only-3 (D.Report q) is e = report-number q is (refused-3 (toldOf q a (d .tip) (d .core)) e)
   only-3 D.WrongReport is e = report is
   only-3 (D.Control c) is e = loops-of-control c is (wrong-loops-are-3 (actionOf c) (addedOf ds) d .only e)
   only-3 (D.Text n run) is e = loops-of-text n run is (wrong-loops-are-3 (stringAction run) (addedOf ds) d .only e)

@@ -12,7 +12,7 @@ use Rattle.text.specs.declared.Data.the-variants as D
 use Rattle.text.specs.Data.{receivedOf}
 use Rattle.line.specs.declared.Report.the-variants.{Whole}
 use Rattle.motion.specs.declared.Body.{Body}
-use Rattle.motion.specs.declared.Activity.the-variants.{Initialising, Moving, Delaying, Between}
+use Rattle.motion.specs.declared.Activity.the-variants.{Initialising, Moving, Delaying, Ejecting, Between}
 use Rattle.buffer.specs.declared.course.State.{State}
 use Rattle.buffer.specs.declared.course.State.the-variants.{Empty, Stored, Running, Stopped, Done}
 use Rattle.machine.specs.declared.Device.{Device}
@@ -20,15 +20,15 @@ use Rattle.machine.specs.Run.{readyIn, readyOf}
 use Rattle.machine.specs.History.{moving}
 use Rattle.reports.specs.declared.Told.{Told}
 use Rattle.reports.specs.declared.Told.the-variants.{Says, No}
-use Rattle.reports.specs.Reports.{goalIn, busyIn, settingOf, valueOf, queryOf, tellOf}
+use Rattle.reports.specs.Reports.{goalIn, busyIn, tipIn, settingOf, valueOf, queryOf, tellOf}
 use Rattle.pipettor.specs.declared.address.Address.{Address}
 use Rattle.pipettor.specs.Byte.{toldOf}
 use Rattle.frames.specs.Refused.{numberFor, refusalOf}
 use Rattle.frames.specs.Grammar.{isAmong}
 
--- the numbers of 01's list for ?
+-- the numbers of 01's list for ?, and 02's 31
 abbrev pub values : List ℕ
-values = 0 ∷ 1 ∷ 3 ∷ 4 ∷ 6 ∷ 7 ∷ 8 ∷ 9 ∷ 10 ∷ 16 ∷ 17 ∷ 18 ∷ 19 ∷ 20 ∷ 29 ∷ 67 ∷ []
+values = 0 ∷ 1 ∷ 3 ∷ 4 ∷ 6 ∷ 7 ∷ 8 ∷ 9 ∷ 10 ∷ 16 ∷ 17 ∷ 18 ∷ 19 ∷ 20 ∷ 29 ∷ 31 ∷ 67 ∷ []
 
 none-of : (t : Bool) (x others : Told) (m : Bool) → (m ≡ false → others ≡ No) → (t || m) ≡ false → (if t then x else others) ≡ No
 none-of true x others m f h = absurd (true≢false h)
@@ -59,16 +59,16 @@ behind-settings n m h =
     (later (eqb n 16) _
     (later (eqb n 10) _ (later (eqb n 9) _ (later (eqb n 8) _ (later (eqb n 7) _ (later (eqb n 6) _ (later (eqb n 4) _ h))))))))))
 
-no-value : (n : ℕ) (b : Body) (s : State) → isAmong n values ≡ false → valueOf n b s ≡ No
+no-value : (n : ℕ) (tip : Bool) (b : Body) (s : State) → isAmong n values ≡ false → valueOf n tip b s ≡ No
 unfolding valueOf
-no-value n b s =
+no-value n tip b s =
     none-of (eqb n 0) _ _ _
     (none-of (eqb n 1) _ _ _
     (none-of (eqb n 3) _ _ _
     (λ h.
     by (λ (t : Told). t ≡ No) (leb 4 n && leb n 20)
-    (λ e. no-setting n (b .settings) (29 ∷ 67 ∷ []) h)
-    (λ e. none-of (eqb n 29) _ _ _ (none-of (eqb n 67) _ _ _ (λ k. refl)) (behind-settings n (29 ∷ 67 ∷ []) h)))))
+    (λ e. no-setting n (b .settings) (29 ∷ 31 ∷ 67 ∷ []) h)
+    (λ e. none-of (eqb n 29) _ _ _ (none-of (eqb n 31) _ _ _ (none-of (eqb n 67) _ _ _ (λ k. refl))) (behind-settings n (29 ∷ 31 ∷ 67 ∷ []) h)))))
 
 no-query : (n error column : ℕ) → isAmong n (0 ∷ 1 ∷ 2 ∷ []) ≡ false → queryOf n error column ≡ No
 unfolding queryOf
@@ -78,19 +78,19 @@ module _ (a : Address) (d : Device) where
   -- "Others 3, Q's too."
   pub any-other-number-is-3 : (ds : List ℕ) (n : ℕ) → receivedOf ds ≡ D.Report (Q.Value n) → isAmong n values ≡ false → refusalOf ds a d ≡ 3
   unfolding refusalOf numberFor tellOf
-  any-other-number-is-3 ds n e h = rw (e, no-value n (d .core .body) (d .core .course .state) h)
+  any-other-number-is-3 ds n e h = rw (e, no-value n (d .tip) (d .core .body) (d .core .course .state) h)
 
   -- 02, W-202: "Q2 reports the column"; "Q3 and above stay 3"
   pub any-other-number-of-Q-is-3 : (ds : List ℕ) (n : ℕ) → receivedOf ds ≡ D.Report (Q.Query n) → isAmong n (0 ∷ 1 ∷ 2 ∷ []) ≡ false → refusalOf ds a d ≡ 3
   unfolding refusalOf numberFor tellOf
   any-other-number-of-Q-is-3 ds n e h = rw (e, no-query n (d .core .course .error) (d .core .course .misread) h)
 
-  pub Q2-tells-the-column : toldOf (Q.Query 2) a (d .core) ≡ Says (Whole (d .core .course .misread))
+  pub Q2-tells-the-column : toldOf (Q.Query 2) a (d .tip) (d .core) ≡ Says (Whole (d .core .course .misread))
   unfolding tellOf queryOf
   Q2-tells-the-column = refl
 
   -- "0 goal (the plunger when none pending)": whenever nothing moves
-  pub the-goal-at-rest-is-the-plunger : moving (d .core .course .state) ≡ false → toldOf (Q.Value 0) a (d .core) ≡ Says (Whole (d .core .body .plunger))
+  pub the-goal-at-rest-is-the-plunger : moving (d .core .course .state) ≡ false → toldOf (Q.Value 0) a (d .tip) (d .core) ≡ Says (Whole (d .core .body .plunger))
   unfolding tellOf valueOf goalIn
   the-goal-at-rest-is-the-plunger = go (d .core .course .state)
     where
@@ -98,14 +98,24 @@ module _ (a : Address) (d : Device) where
       go (Running (Initialising t)) h = absurd (true≢false h)
       go (Running (Moving t)) h = absurd (true≢false h)
       go (Running (Delaying k)) h = refl
+      go (Running Ejecting) h = refl
       go (Running Between) h = refl
       go Empty h = refl
       go Stored h = refl
       go Stopped h = refl
       go Done h = refl
 
+  -- 02, W-203: "?31 reports the tip of the last tick"
+  pub q31-tells-the-tip : toldOf (Q.Value 31) a (d .tip) (d .core) ≡ Says (Whole (if d .tip then 1 else 0))
+  unfolding tellOf valueOf
+  q31-tells-the-tip = go (d .tip)
+    where
+      go : (t : Bool) → Says (Whole (tipIn t)) ≡ Says (Whole (if t then 1 else 0))
+      go true = refl
+      go false = refl
+
   -- "29 .. `0` or `1`: busy": wherever it isn't ready
-  pub busy-is-not-ready : toldOf (Q.Value 29) a (d .core) ≡ Says (Whole (if readyOf (d .core) then 0 else 1))
+  pub busy-is-not-ready : toldOf (Q.Value 29) a (d .tip) (d .core) ≡ Says (Whole (if readyOf (d .core) then 0 else 1))
   unfolding tellOf valueOf
   busy-is-not-ready = go (d .core .course .state)
     where

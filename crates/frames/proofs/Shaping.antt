@@ -16,16 +16,17 @@ use Rattle.command.specs.declared.refusal.Verdict.{Verdict}
 use Rattle.command.specs.declared.Found.{Found}
 use Rattle.command.specs.declared.Found.the-variants as F
 use Rattle.command.specs.Command.{commandAt}
+use Rattle.motion.specs.declared.Sense.{Sense}
 use Rattle.motion.specs.declared.Body.{Body}
 use Rattle.motion.specs.declared.Travel.{Travel}
 use Rattle.motion.specs.declared.Activity.{Activity}
-use Rattle.motion.specs.declared.Activity.the-variants.{Initialising, Moving, Delaying, Between}
+use Rattle.motion.specs.declared.Activity.the-variants.{Initialising, Moving, Delaying, Ejecting, Between}
 use Rattle.motion.specs.declared.Target.{Target}
 use Rattle.motion.specs.declared.Target.the-variants.{At, Outside}
 use Rattle.motion.specs.declared.Effect.{Effect}
-use Rattle.motion.specs.declared.Effect.the-variants.{Goes, Ends, Fails, Opens, Closes}
+use Rattle.motion.specs.declared.Effect.the-variants.{Goes, Ends, Fails, Asks, Opens, Closes}
 use Rattle.motion.specs.Events.{Event, Turn}
-use Rattle.motion.specs.Motion.{laterOf, plungerOf, bodySet, settingsOf, homeOf, targetOf, setOut, aimed, moveOf, delayOf, effectOf, carried, waitedOf, between, onwardOf}
+use Rattle.motion.specs.Motion.{laterOf, plungerOf, bodySet, settingsOf, homeOf, targetOf, setOut, aimed, moveOf, delayOf, ejectOf, effectOf, carried, waitedOf, ejectedOf, between, onwardOf}
 use Rattle.buffer.specs.declared.course.State.{State}
 use Rattle.buffer.specs.declared.course.State.the-variants.{Empty, Stored, Running, Stopped, Done}
 use Rattle.buffer.specs.declared.course.Course.{Course}
@@ -36,7 +37,7 @@ use Rattle.machine.specs.declared.step.Core.{Core}
 use Rattle.machine.specs.declared.step.Stepped.{Stepped}
 use Rattle.machine.specs.declared.Device.{Device}
 use Rattle.machine.specs.declared.Turned.{Turned}
-use Rattle.machine.specs.Step.{Around, around, core, stepped, wentOf, appliedOf, takenOf, carriedOn, runningOf, activeOf, stepOf}
+use Rattle.machine.specs.Step.{around, core, stepped, wentOf, appliedOf, takenOf, carriedOn, runningOf, activeOf, stepOf}
 use Rattle.machine.specs.Device.{device, tickOf}
 
 -- what is left of a body without them: the plunger, the exact position, "initialised", V and C
@@ -47,6 +48,7 @@ abbrev shapeOf : Effect → Effect
 shapeOf (Goes b a) = Goes (shape b) a
 shapeOf (Ends b) = Ends (shape b)
 shapeOf (Fails why b) = Fails why (shape b)
+shapeOf Asks = Asks
 shapeOf Opens = Opens
 shapeOf (Closes n) = Closes n
 
@@ -54,7 +56,7 @@ abbrev shapeIn : Core → Core
 shapeIn c = core (shape (c .body)) (c .course)
 
 abbrev shapeBehind : Stepped → Stepped
-shapeBehind s = stepped (shapeIn (s .core)) (s .failed)
+shapeBehind s = stepped (shapeIn (s .core)) (s .news)
 
 -- two effects, or what a tick hands back, that differ in these settings only, and add the same to the history
 record Same {A : Type 0} (f : A → A) (t u : Turn A) : Type 0 where
@@ -69,7 +71,7 @@ either : {A : Type 0} (f : A → A) (x : Bool) (a b c d : Turn A) → Same f a c
 either f true a b c d p q = p
 either f false a b c d p q = q
 
-module _ (v c up down k : ℕ) where
+module _ (v c up down k : ℕ) (sense : Sense) where
   -- a body with others in their place
   abbrev other : Body → Body
   other b = bodySet (settingsOf (b .settings .top) v c up down k (b .settings .rate)) b
@@ -86,8 +88,8 @@ module _ (v c up down k : ℕ) where
   abbrev AsBefore : Body → Type 0
   AsBefore b = ltb (b .settings .top) v ≡ ltb (b .settings .top) (b .settings .start)
 
-  effect-same : (x : Command) (b : Body) → AsBefore b → Same shapeOf (effectOf x (other b)) (effectOf x b)
-  unfolding effectOf homeOf moveOf delayOf
+  effect-same : (x : Command) (b : Body) → AsBefore b → Same shapeOf (effectOf sense x (other b)) (effectOf sense x b)
+  unfolding effectOf homeOf moveOf delayOf ejectOf
   effect-same (C.Initialise speed) b s = record { next = whichever shapeOf (eqb (b .plunger) 0) _ _ _ _ refl refl; events = refl }
   effect-same (C.Move way n) b s =
       rw s
@@ -103,6 +105,8 @@ module _ (v c up down k : ℕ) where
   effect-same (C.Backlash n) b s = record { next = refl; events = refl }
   effect-same (C.Compensate n way) b s = record { next = refl; events = refl }
   effect-same (C.Delay ms) b s = record { next = whichever shapeOf (eqb (ticksOf ms) 0) _ _ _ _ refl refl; events = refl }
+  effect-same (C.Eject true) b s = record { next = whichever shapeOf (b .initialised) _ _ _ _ refl refl; events = refl }
+  effect-same (C.Eject false) b s = record { next = whichever shapeOf (sense .tip) _ _ _ _ refl refl; events = refl }
   effect-same C.Open b s = record { next = refl; events = refl }
   effect-same (C.Close n) b s = record { next = refl; events = refl }
 
@@ -110,11 +114,12 @@ module _ (v c up down k : ℕ) where
   unfolding carried
   carried-same kind known t b = whichever shapeOf (eqb (plungerOf t) (t .goal)) _ _ _ _ refl refl
 
-  onward-same : (a : Activity) (b : Body) → Same shapeOf (onwardOf a (other b)) (onwardOf a b)
-  unfolding onwardOf waitedOf
+  onward-same : (a : Activity) (b : Body) → Same shapeOf (onwardOf sense a (other b)) (onwardOf sense a b)
+  unfolding onwardOf waitedOf ejectedOf
   onward-same (Initialising t) b = record { next = carried-same Initialising true (laterOf t) b; events = refl }
   onward-same (Moving t) b = record { next = carried-same Moving (b .initialised) (laterOf t) b; events = refl }
   onward-same (Delaying n) b = record { next = whichever shapeOf (leb n 1) _ _ _ _ refl refl; events = refl }
+  onward-same Ejecting b = record { next = whichever shapeOf (sense .tip) _ _ _ _ refl refl; events = refl }
   onward-same Between b = record { next = refl; events = refl }
 
   went-same : (w : Went) (b : Body) (x : Course) → shapeBehind (wentOf w b x) ≡ wentOf w (shape b) x
@@ -126,34 +131,35 @@ module _ (v c up down k : ℕ) where
   applied-shape (Goes b a) next x = refl
   applied-shape (Ends b) next x = refl
   applied-shape (Fails why b) next x = refl
+  applied-shape Asks next x = refl
   applied-shape Opens next x = went-same (openedOf next (x .course)) (x .body) (x .course)
   applied-shape (Closes n) next x = went-same (closedOf n next (x .course)) (x .body) (x .course)
 
   applied-same : (e f : Effect) (next : ℕ) (x : Core) → shapeOf e ≡ shapeOf f → shapeBehind (appliedOf e next (otherIn x)) ≡ shapeBehind (appliedOf f next x)
   applied-same e f next x p = applied-shape e next (otherIn x) ∙ ap (λ (g : Effect). appliedOf g next (shapeIn x)) p ∙ sym (applied-shape f next x)
 
-  taken-same : (f : Found) (x : Core) → AsBefore (x .body) → Same shapeBehind (takenOf f (otherIn x)) (takenOf f x)
+  taken-same : (f : Found) (x : Core) → AsBefore (x .body) → Same shapeBehind (takenOf sense f (otherIn x)) (takenOf sense f x)
   unfolding takenOf
   taken-same (F.Command y next) x h =
       let s = effect-same y (x .body) h in
-      record { next = applied-same (effectOf y (other (x .body)) .next) (effectOf y (x .body) .next) next x (s .next); events = s .events }
+      record { next = applied-same (effectOf sense y (other (x .body)) .next) (effectOf sense y (x .body) .next) next x (s .next); events = s .events }
   taken-same (F.Refused m) x h = record { next = refl; events = refl }
   taken-same F.End x h = record { next = refl; events = refl }
 
-  running-same : (a : Activity) (w : Around) (x : Core) → AsBefore (x .body) → Same shapeBehind (runningOf a w (otherIn x)) (runningOf a w x)
+  running-same : (a : Activity) (text : List ℕ) (x : Core) → AsBefore (x .body) → Same shapeBehind (runningOf a (around text sense) (otherIn x)) (runningOf a (around text sense) x)
   unfolding runningOf carriedOn
-  running-same a w x h =
+  running-same a text x h =
       let s = onward-same a (x .body) in
-      either shapeBehind (between a) _ _ _ _ (taken-same (commandAt (take (x .course .len) (w .text)) (x .course .at)) x h)
-      (record { next = applied-same (onwardOf a (other (x .body)) .next) (onwardOf a (x .body) .next) (x .course .at) x (s .next); events = s .events })
+      either shapeBehind (between a) _ _ _ _ (taken-same (commandAt (take (x .course .len) text) (x .course .at)) x h)
+      (record { next = applied-same (onwardOf sense a (other (x .body)) .next) (onwardOf sense a (x .body) .next) (x .course .at) x (s .next); events = s .events })
 
-  active-same : (s : State) (w : Around) (x : Core) → AsBefore (x .body) → Same shapeBehind (activeOf s w (otherIn x)) (activeOf s w x)
+  active-same : (s : State) (text : List ℕ) (x : Core) → AsBefore (x .body) → Same shapeBehind (activeOf s (around text sense) (otherIn x)) (activeOf s (around text sense) x)
   unfolding activeOf
-  active-same (Running a) w x h = running-same a w x h
-  active-same Empty w x h = record { next = refl; events = refl }
-  active-same Stored w x h = record { next = refl; events = refl }
-  active-same Stopped w x h = record { next = refl; events = refl }
-  active-same Done w x h = record { next = refl; events = refl }
+  active-same (Running a) text x h = running-same a text x h
+  active-same Empty text x h = record { next = refl; events = refl }
+  active-same Stored text x h = record { next = refl; events = refl }
+  active-same Stopped text x h = record { next = refl; events = refl }
+  active-same Done text x h = record { next = refl; events = refl }
 
 -- two ticks that leave all but v, c, L and K the same: where the plunger is and is to be, what is in progress and how far, the run, V, C and the history
 pub record SameMotion (t u : Turn Turned) : Type 0 where
@@ -163,15 +169,15 @@ pub record SameMotion (t u : Turn Turned) : Type 0 where
   pub speed : t .next .device .core .body .settings .top ≡ u .next .device .core .body .settings .top
   pub rate : t .next .device .core .body .settings .rate ≡ u .next .device .core .body .settings .rate
   pub course : t .next .device .core .course ≡ u .next .device .core .course
-  pub failed : t .next .failed ≡ u .next .failed
+  pub news : t .next .news ≡ u .next .news
   pub events : t .events ≡ u .events
 
 pub v-c-L-and-K-do-not-shape-motion :
-    (v c up down k : ℕ) (d : Device) → ltb (d .core .body .settings .top) v ≡ ltb (d .core .body .settings .top) (d .core .body .settings .start) →
-    SameMotion (tickOf (device (d .text) (core (bodySet (settingsOf (d .core .body .settings .top) v c up down k (d .core .body .settings .rate)) (d .core .body)) (d .core .course)))) (tickOf d)
+    (v c up down k : ℕ) (s : Sense) (d : Device) → ltb (d .core .body .settings .top) v ≡ ltb (d .core .body .settings .top) (d .core .body .settings .start) →
+    SameMotion (tickOf s (device (d .text) (d .tip) (core (bodySet (settingsOf (d .core .body .settings .top) v c up down k (d .core .body .settings .rate)) (d .core .body)) (d .core .course)))) (tickOf s d)
 unfolding tickOf stepOf
-v-c-L-and-K-do-not-shape-motion v c up down k d above =
-    let s = active-same v c up down k (d .core .course .state) (around (d .text)) (d .core) above in
+v-c-L-and-K-do-not-shape-motion v c up down k x d above =
+    let s = active-same v c up down k x (d .core .course .state) (d .text) (d .core) above in
     record {
       plunger = ap (λ (x : Stepped). x .core .body .plunger) (s .next);
       exact = ap (λ (x : Stepped). x .core .body .exact) (s .next);
@@ -179,6 +185,6 @@ v-c-L-and-K-do-not-shape-motion v c up down k d above =
       speed = ap (λ (x : Stepped). x .core .body .settings .top) (s .next);
       rate = ap (λ (x : Stepped). x .core .body .settings .rate) (s .next);
       course = ap (λ (x : Stepped). x .core .course) (s .next);
-      failed = ap (λ (x : Stepped). x .failed) (s .next);
+      news = ap (λ (x : Stepped). x .news) (s .next);
       events = s .events;
     }

@@ -83,7 +83,7 @@ module _ (run : Bool) (added : List ℕ) (d : Device) (len : d .core .course .le
 
   held :
       (o : Order) (front : List ℕ) → TakesText run (storedIn d) o front → length (front ++ added) ≤ 256 →
-      Holds (front ++ added) (device (storedBy o Fine (d .core .course .len) added (d .text)) (actedOf o Fine (length added) (d .core) .next))
+      Holds (front ++ added) (device (storedBy o Fine (d .core .course .len) added (d .text)) (d .tip) (actedOf o Fine (length added) (d .core) .next))
   unfolding storedBy laidBy actedOf doneOf
   held o front alone h =
       let z : 0 + length added ≡ length added = omega arith in
@@ -121,7 +121,7 @@ module _ (ds : List ℕ) (n : ℕ) (run : Bool) (is : receivedOf ds ≡ D.Text n
     unfolding refusalOf numberFor
     text-number = rw is
 
-    text-device : verdictOf order (storedIn d) (addedOf ds) ≡ Fine → exchangeOf ds a d buf .next .device ≡ device (storedBy order Fine (d .core .course .len) (addedOf ds) (d .text)) (actedOf order Fine (length (addedOf ds)) (d .core) .next)
+    text-device : verdictOf order (storedIn d) (addedOf ds) ≡ Fine → exchangeOf ds a d buf .next .device ≡ device (storedBy order Fine (d .core .course .len) (addedOf ds) (d .text)) (d .tip) (actedOf order Fine (length (addedOf ds)) (d .core) .next)
     unfolding exchangeOf dealtOf taskOf performedOf actOf
     text-device e = rw (is, e)
 

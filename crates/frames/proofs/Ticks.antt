@@ -2,28 +2,16 @@
 use mathlib.Core.Path.{_≡_, refl, sym, _∙_}
 use Prim.Native.Nat.{ℕ}
 use native.Mathlib.Omega.{arith}
-use lib.ListN.{take}
-use Rattle.basics.proofs.Choice.{by}
 use Rattle.command.specs.declared.refusal.Refusal.{Refusal}
 use Rattle.command.specs.declared.refusal.Verdict.the-variants.{Fine, Refused}
-use Rattle.command.specs.declared.Found.{Found}
-use Rattle.command.specs.declared.Found.the-variants as F
-use Rattle.command.specs.Command.{commandAt}
-use Rattle.motion.specs.declared.Activity.{Activity}
-use Rattle.motion.specs.declared.Effect.{Effect}
-use Rattle.motion.specs.declared.Effect.the-variants.{Goes, Ends, Fails, Opens, Closes}
-use Rattle.motion.specs.Events.{Turn}
-use Rattle.motion.specs.Motion.{between, effectOf, onwardOf}
-use Rattle.buffer.specs.declared.course.State.{State}
-use Rattle.buffer.specs.declared.course.State.the-variants.{Empty, Stored, Running, Stopped, Done}
+use Rattle.motion.specs.declared.Sense.{Sense}
 use Rattle.buffer.specs.declared.course.Course.{Course}
-use Rattle.buffer.specs.declared.course.Went.{Went}
 use Rattle.buffer.specs.Course.{reached}
 use Rattle.machine.specs.declared.step.Core.{Core}
 use Rattle.machine.specs.declared.step.Stepped.{Stepped}
-use Rattle.machine.specs.Step.{Around, around, wentOf, appliedOf, takenOf, carriedOn, runningOf, activeOf, stepOf}
+use Rattle.machine.specs.Step.{Around, around, stepOf}
 use Rattle.machine.specs.Device.{tickOf}
-use Rattle.machine.proofs.Looping.{behind-open, behind-close}
+use Rattle.machine.proofs.Ways.{Ways, step-by}
 use Rattle.pipettor.specs.declared.Controller.{Controller}
 use Rattle.pipettor.specs.Controller.{tickedOf}
 
@@ -32,64 +20,44 @@ refused-is-not-fine why e = let z : _≡_ {A = ℕ} 0 1 = cc in absurd (omega ar
 
 module _ (c : Core) where
   record Leaves (s : Stepped) : Type 0 where
-    kept : s .failed ≡ Fine → (s .core .course .error ≡ c .course .error) × (s .core .course .misread ≡ c .course .misread)
-    cleared : (why : Refusal) → s .failed ≡ Refused why → s .core .course .misread ≡ 0
+    kept : s .news .failed ≡ Fine → (s .core .course .error ≡ c .course .error) × (s .core .course .misread ≡ c .course .misread)
+    cleared : (why : Refusal) → s .news .failed ≡ Refused why → s .core .course .misread ≡ 0
 
-  goes-on : (s : Stepped) → s .failed ≡ Fine → s .core .course .error ≡ c .course .error → s .core .course .misread ≡ c .course .misread → Leaves s
+  goes-on : (s : Stepped) → s .news .failed ≡ Fine → s .core .course .error ≡ c .course .error → s .core .course .misread ≡ c .course .misread → Leaves s
   goes-on s fine error column = record { kept = λ h. (error, column); cleared = λ why h. refused-is-not-fine why (sym h ∙ fine) }
 
-  fails : (s : Stepped) (why : Refusal) → s .failed ≡ Refused why → s .core .course .misread ≡ 0 → Leaves s
+  fails : (s : Stepped) (why : Refusal) → s .news .failed ≡ Refused why → s .core .course .misread ≡ 0 → Leaves s
   fails s why is none = record { kept = λ h. refused-is-not-fine why (sym is ∙ h); cleared = λ w h. none }
 
-  abbrev WentLeaves : Went → Type 0
-  WentLeaves g = Leaves (wentOf g (c .body) (c .course))
+  leaves : (w : Around) → Leaves (stepOf w c .next)
+  unfolding reached
+  leaves w =
+      step-by Leaves c
+      (record {
+        rests = goes-on _ refl refl refl;
+        goes = λ b a at. goes-on _ refl refl refl;
+        ends = λ b at l. goes-on _ refl refl refl;
+        breaks = λ why b. fails _ why refl refl;
+        asks = λ at. goes-on _ refl refl refl;
+      })
+      w
 
-  applied-leaves : (e : Effect) (next : ℕ) → Leaves (appliedOf e next c)
-  unfolding appliedOf reached
-  applied-leaves (Goes b a) next = goes-on _ refl refl refl
-  applied-leaves (Ends b) next = goes-on _ refl refl refl
-  applied-leaves (Fails why b) next = fails _ why refl refl
-  applied-leaves Opens next = behind-open WentLeaves (c .course) (λ at l. goes-on _ refl refl refl) (fails _ _ refl refl) next
-  applied-leaves (Closes n) next = behind-close WentLeaves (c .course) (λ at l. goes-on _ refl refl refl) (fails _ _ refl refl) n next
-
-  taken-leaves : (f : Found) → Leaves (takenOf f c .next)
-  unfolding takenOf reached
-  taken-leaves (F.Command k next) = applied-leaves (effectOf k (c .body) .next) next
-  taken-leaves (F.Refused m) = fails _ _ refl refl
-  taken-leaves F.End = goes-on _ refl refl refl
-
-  running-leaves : (a : Activity) (w : Around) → Leaves (runningOf a w c .next)
-  unfolding runningOf carriedOn
-  running-leaves a w =
-      by (λ (t : Turn Stepped). Leaves (t .next)) (between a)
-      (λ e. taken-leaves (commandAt (take (c .course .len) (w .text)) (c .course .at)))
-      (λ e. applied-leaves (onwardOf a (c .body) .next) (c .course .at))
-
-  active-leaves : (s : State) (w : Around) → Leaves (activeOf s w c .next)
-  unfolding activeOf
-  active-leaves (Running a) w = running-leaves a w
-  active-leaves Empty w = goes-on _ refl refl refl
-  active-leaves Stored w = goes-on _ refl refl refl
-  active-leaves Stopped w = goes-on _ refl refl refl
-  active-leaves Done w = goes-on _ refl refl refl
-
-module _ (k : Controller) where
+module _ (s : Sense) (k : Controller) where
   abbrev before : Course
   before = k .device .core .course
 
-  ticked-leaves : Leaves (k .device .core) (stepOf (around (k .device .text)) (k .device .core) .next)
-  unfolding stepOf
-  ticked-leaves = active-leaves (k .device .core) (before .state) (around (k .device .text))
+  ticked-leaves : Leaves (k .device .core) (stepOf (around (k .device .text) s) (k .device .core) .next)
+  ticked-leaves = leaves (k .device .core) (around (k .device .text) s)
 
-  pub a-tick-leaves-the-last-error-unless-the-run-fails : tickedOf k .next .failed ≡ Fine → tickedOf k .next .controller .device .core .course .error ≡ before .error
+  pub a-tick-leaves-the-last-error-unless-the-run-fails : tickedOf s k .next .news .failed ≡ Fine → tickedOf s k .next .controller .device .core .course .error ≡ before .error
   unfolding tickedOf tickOf
   a-tick-leaves-the-last-error-unless-the-run-fails h = ticked-leaves .kept h .0
 
   -- 02, W-202: "It is 0 after .. an error in a run"
-  pub a-tick-leaves-the-column-unless-the-run-fails : tickedOf k .next .failed ≡ Fine → tickedOf k .next .controller .device .core .course .misread ≡ before .misread
+  pub a-tick-leaves-the-column-unless-the-run-fails : tickedOf s k .next .news .failed ≡ Fine → tickedOf s k .next .controller .device .core .course .misread ≡ before .misread
   unfolding tickedOf tickOf
   a-tick-leaves-the-column-unless-the-run-fails h = ticked-leaves .kept h .1
 
-  pub an-error-in-a-run-has-no-column : (why : Refusal) → tickedOf k .next .failed ≡ Refused why → tickedOf k .next .controller .device .core .course .misread ≡ 0
+  pub an-error-in-a-run-has-no-column : (why : Refusal) → tickedOf s k .next .news .failed ≡ Refused why → tickedOf s k .next .controller .device .core .course .misread ≡ 0
   unfolding tickedOf tickOf
   an-error-in-a-run-has-no-column why h = ticked-leaves .cleared why h

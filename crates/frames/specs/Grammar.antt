@@ -21,7 +21,7 @@ isAmong b (x ∷ xs) = eqb b x || isAmong b xs
 
 -- "Commands: W A P D V v c L K b G g M"
 abbrev pub letters : List ℕ
-letters = 87 ∷ 65 ∷ 80 ∷ 68 ∷ 86 ∷ 118 ∷ 99 ∷ 76 ∷ 75 ∷ 98 ∷ 77 ∷ 103 ∷ 71 ∷ []
+letters = 87 ∷ 65 ∷ 80 ∷ 68 ∷ 86 ∷ 118 ∷ 99 ∷ 76 ∷ 75 ∷ 98 ∷ 77 ∷ 69 ∷ 103 ∷ 71 ∷ []
 
 -- "An operand text is the longest run of digits, points and commas after a letter": what follows it begins with none of them
 abbrev pub Ended : List ℕ → Type 0

@@ -4,3 +4,4 @@ pub mod Limits
 pub mod Listening
 pub mod Passes
 pub mod Grammar
+pub mod Tips

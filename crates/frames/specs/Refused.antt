@@ -45,7 +45,7 @@ unfoldable pub numberFor : Data → List ℕ → Address → Device → ℕ
 numberFor D.TooLong added a d = 15
 numberFor (D.Wrong m) added a d = refusalNumber (R.Misread m)
 numberFor D.WrongReport added a d = refusalNumber R.Report
-numberFor (D.Report q) added a d = toldNumber (toldOf q a (d .core))
+numberFor (D.Report q) added a d = toldNumber (toldOf q a (d .tip) (d .core))
 numberFor (D.Control c) added a d = Buffer.numberFor (actionOf c) added d
 numberFor (D.Text n run) added a d = Buffer.numberFor (stringAction run) added d
 
@@ -53,7 +53,7 @@ numberFor (D.Text n run) added a d = Buffer.numberFor (stringAction run) added d
 unfoldable pub refusalOf : List ℕ → Address → Device → ℕ
 refusalOf ds a d = numberFor (receivedOf ds) (addedOf ds) a d
 
--- the numbers a frame can get: 7 comes in a run only
+-- the numbers a frame can get: 7, 8 and 10 come in a run only
 abbrev pub Known : ℕ → Type 0
 Known n = (n ≡ 0) ⊎ (n ≡ 2) ⊎ (n ≡ 3) ⊎ (n ≡ 14) ⊎ (n ≡ 15)
 
@@ -76,26 +76,26 @@ abbrev pub toldReport : Told → Report
 toldReport (Says report) = report
 toldReport No = Nothing
 
-abbrev pub reportIn : Data → Address → Core → Report
-reportIn (D.Report q) a c = toldReport (toldOf q a c)
-reportIn D.WrongReport a c = Nothing
-reportIn (D.Control k) a c = Nothing
-reportIn (D.Text n run) a c = Nothing
-reportIn (D.Wrong r) a c = Nothing
-reportIn D.TooLong a c = Nothing
+abbrev pub reportIn : Data → Address → Device → Report
+reportIn (D.Report q) a d = toldReport (toldOf q a (d .tip) (d .core))
+reportIn D.WrongReport a d = Nothing
+reportIn (D.Control k) a d = Nothing
+reportIn (D.Text n run) a d = Nothing
+reportIn (D.Wrong r) a d = Nothing
+reportIn D.TooLong a d = Nothing
 
 -- the code in the status byte: an accepted report's is the last error, an accepted other frame's 0, a refused frame's its own number
 abbrev pub statusCode : Data → ℕ → ℕ → ℕ
 statusCode x number error = if isReport x && eqb number 0 then error else number
 
 -- "Answer: `/`, `0`, status byte, data, 03h, CR, LF." "Ready or busy is taken after the frame has acted."
-abbrev pub answerTo : Data → ℕ → Address → Core → Core → List ℕ
-answerTo x number a before after = answerOf (statusOf (readyOf after) (statusCode x number (before .course .error))) (reportIn x a before)
+abbrev pub answerTo : Data → ℕ → Address → Device → Core → List ℕ
+answerTo x number a before after = answerOf (statusOf (readyOf after) (statusCode x number (before .core .course .error))) (reportIn x a before)
 
 -- Every frame to us is answered so; "Bytes after an answer's end stay as they were."
 pub record Replied (x : Data) (number : ℕ) (a : Address) (d : Device) (buf : List ℕ) (e : Turn Exchange) : Type 0 where
-  pub said : e .next .said ≡ Answer (length (answerTo x number a (d .core) (e .next .device .core)))
-  pub buffer : e .next .buffer ≡ over (answerTo x number a (d .core) (e .next .device .core)) 0 buf
+  pub said : e .next .said ≡ Answer (length (answerTo x number a d (e .next .device .core)))
+  pub buffer : e .next .buffer ≡ over (answerTo x number a d (e .next .device .core)) 0 buf
 
 -- 02, W-202: the column that a frame leaves, by its data, where another was left before: "the last load refusal by 2 or 3"; "Reports don't set it. It is 0 after any other frame to us"
 abbrev pub columnAfter : Data → ℕ → ℕ
@@ -112,6 +112,7 @@ refusedCore x number c = if isReport x then c else coreError number (columnAfter
 
 pub record Refused (x : Data) (number : ℕ) (d : Device) (e : Turn Exchange) : Type 0 where
   pub text : e .next .device .text ≡ d .text
+  pub tip : e .next .device .tip ≡ d .tip
   pub core : e .next .device .core ≡ refusedCore x number (d .core)
   pub events : e .events ≡ []
 
@@ -147,7 +148,7 @@ pub record WrongLetter (ds : List ℕ) : Type 0 where
 pub data WrongNumber (a : Address) (d : Device) (ds : List ℕ) : Type 0 where
   operand : IsString ds → (place read : ℕ) → OperandAt (textIn ds) place read → WrongNumber a d ds
   report : receivedOf ds ≡ D.WrongReport → WrongNumber a d ds
-  report-number : (q : Question) → receivedOf ds ≡ D.Report q → toldOf q a (d .core) ≡ No → WrongNumber a d ds
+  report-number : (q : Question) → receivedOf ds ≡ D.Report q → toldOf q a (d .tip) (d .core) ≡ No → WrongNumber a d ds
   loops-of-control : (c : Control) → receivedOf ds ≡ D.Control c → WrongLoops (actionOf c) (d .core .course .state) (storedIn d) (addedOf ds) → WrongNumber a d ds
   loops-of-text : (n : ℕ) (run : Bool) → receivedOf ds ≡ D.Text n run → WrongLoops (stringAction run) (d .core .course .state) (storedIn d) (addedOf ds) → WrongNumber a d ds
 

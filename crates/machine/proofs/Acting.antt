@@ -142,6 +142,6 @@ part-of-text c text v l = let k = v .course .len in rw l k
 pub acts :
     (a : Action) (added text after : List ℕ) (c d : Core) (o : Order) (v : Verdict) → o ≡ orderOf a (c .course .state) →
     Judged o text added (c .course .len) v → after ≡ storedBy o v (c .course .len) added text → d ≡ actedOf o v (length added) c .next →
-    acted after d v ≡ actOf a added (device text c) .next
+    (tip : Bool) → acted after tip d v ≡ actOf a added (device text tip c) .next
 unfolding actOf
-acts a added text after c d o v p q s e = rw (s, e, q .is, p)
+acts a added text after c d o v p q s e tip = rw (s, e, q .is, p)

@@ -28,7 +28,7 @@ use Rattle.machine.specs.History.Call.{tick, act, stop}
 
 -- a text is run for so many ticks, and then some more calls
 abbrev runs : String → ℕ → List Call → List Call
-runs text n more = act Launch (chars text) ∷ (replicate n tick ++ more)
+runs text n more = act Launch (chars text) ∷ (replicate n (tick (record { tip = false })) ++ more)
 
 pub record Shown : Type 0 where
   pub plunger : ℕ

@@ -1,16 +1,15 @@
 -- 01, demand 3, for any calls from the fresh device: where the plunger stands, and that the exact position is the sum of the history.
-use mathlib.Core.Path.{_≡_, refl}
-use mathlib.Core.Bool.{false}
+use mathlib.Core.Path.{_≡_, refl, ap, _∙_}
+use mathlib.Core.Bool.{Bool, true, false}
 use mathlib.Core.List.{List, [], _∷_, _++_}
 use Prim.Native.Nat.{ℕ, zero, suc, _≤_}
 use native.Mathlib.Omega.{arith}
-use lib.Dec.{ltb}
+use lib.Dec.{ltb, eqb}
 use lib.ListN.{replicate, length-replicate}
+use Rattle.basics.specs.Choice.{if_then_else_}
 use Rattle.basics.proofs.Choice.{by}
 use Rattle.settings.specs.Units.{Near}
-use Rattle.command.specs.declared.refusal.Verdict.{Verdict}
-use Rattle.command.specs.declared.refusal.Verdict.the-variants.{Fine}
-use Rattle.command.specs.Numbers.{firstOf}
+use Rattle.motion.specs.declared.Sense.{Sense}
 use Rattle.motion.specs.Events.{Event}
 use Rattle.motion.specs.Motion.{freshBody}
 use Rattle.motion.proofs.Keeps.{fresh-ok}
@@ -18,10 +17,12 @@ use Rattle.machine.specs.declared.Device.{Device}
 use Rattle.machine.specs.declared.Ran.{Ran}
 use Rattle.machine.specs.Run.{ticksOf, usedOf}
 use Rattle.machine.specs.Valid.{Ready}
-use Rattle.machine.specs.Step.{around, stepped, fine, nextOf}
-use Rattle.machine.specs.Device.{device, freshOf, tickOf, haltedOf, advanceOf, ranOf}
+use Rattle.machine.specs.declared.step.News.{News}
+use Rattle.machine.specs.Step.{around, noNews, bothOf, stepped, fine, nextOf}
+use Rattle.machine.specs.Device.{device, freshOf, tipAfter, tickOf, haltedOf, advanceOf, ranOf}
 use Rattle.machine.specs.History.{Call, callOf, afterOf, eventsOf, after, history, Sum, sum, counted, addedUp, sumOf, IsSum, StandsBy, moving}
 use Rattle.machine.specs.History.Call.{tick, act, stop}
+use Rattle.machine.proofs.Devices.{each-senses}
 use Rattle.machine.proofs.Keeps.{step-keeps}
 use Rattle.machine.proofs.KeepsActs.{act-keeps, stop-keeps}
 use Rattle.machine.proofs.Position.{CoreTold, at-rest, step-tells, act-tells, stop-tells}
@@ -41,10 +42,10 @@ fresh-is-sound =
 
 call-is-sound : (k : Call) (d : Device) (s : Sum) → Sound d s → Sound (callOf k d .next) (addedUp s (callOf k d .events))
 unfolding callOf tickOf haltedOf
-call-is-sound tick d s h =
+call-is-sound (tick x) d s h =
     record {
-      ready = record { valid = step-keeps (d .core) (h .ready .valid) (around (d .text)); long = h .ready .long };
-      told = step-tells (d .core) s (h .told) (around (d .text));
+      ready = record { valid = step-keeps (d .core) (h .ready .valid) (around (d .text) x); long = h .ready .long };
+      told = step-tells (d .core) s (h .told) (around (d .text) x);
     }
 call-is-sound (act a added) d s h = record { ready = act-keeps a added d (h .ready); told = act-tells a added d s (h .told) }
 call-is-sound stop d s h =
@@ -99,19 +100,26 @@ module _ (calls : List Call) where
       record { above = omega arith; below = omega arith }
 
 -- to advance by ticks is to call as many ticks, and to run is to call some
-ticks-called : (n : ℕ) (d : Device) (v : Verdict) → afterOf (replicate n tick) d ≡ device (d .text) (ticksOf n (around (d .text)) (stepped (d .core) v) .core)
-unfolding afterOf callOf tickOf ticksOf nextOf
-ticks-called zero d v = refl
-ticks-called (suc n) d v = ticks-called n (callOf tick d .next) (firstOf v (tickOf d .next .failed))
+module _ (x : Sense) where
+  ticks-called : (n : ℕ) (d : Device) (v : News) → afterOf (replicate n (tick x)) d ≡ device (d .text) (tipAfter n x (d .tip)) (ticksOf n (around (d .text) x) (stepped (d .core) v) .core)
+  unfolding afterOf callOf tickOf ticksOf nextOf
+  ticks-called zero d v = refl
+  ticks-called (suc n) d v =
+      ticks-called n (callOf (tick x) d .next) (bothOf v (tickOf x d .next .news))
+      ∙ ap (λ (t : Bool). device (d .text) t (ticksOf (suc n) (around (d .text) x) (stepped (d .core) v) .core)) (once-sensed (eqb n 0) ∙ each-senses (suc n) x (d .tip) (λ e. absurd (omega arith)))
+    where
+      once-sensed : (b : Bool) → (if b then x .tip else x .tip) ≡ x .tip
+      once-sensed true = refl
+      once-sensed false = refl
 
-pub to-advance-is-to-call-ticks : (n : ℕ) (d : Device) → afterOf (replicate n tick) d ≡ advanceOf n d .device
-unfolding advanceOf
-to-advance-is-to-call-ticks n d = ticks-called n d Fine
+  pub to-advance-is-to-call-ticks : (n : ℕ) (d : Device) → afterOf (replicate n (tick x)) d ≡ advanceOf n x d .device
+  unfolding advanceOf
+  to-advance-is-to-call-ticks n d = ticks-called n d noNews
 
-pub to-run-is-to-call-ticks : (n : ℕ) (d : Device) → (k : ℕ) × (afterOf (replicate k tick) d ≡ ranOf n d .turned .device)
-unfolding ranOf afterOf
-to-run-is-to-call-ticks n d =
-    let k = usedOf n (around (d .text)) (fine (d .core)) in
-    by (λ (r : Ran). (k : ℕ) × (afterOf (replicate k tick) d ≡ r .turned .device)) (ltb 60000 n)
-    (λ h. (0, refl))
-    (λ h. (k, to-advance-is-to-call-ticks k d))
+  pub to-run-is-to-call-ticks : (n : ℕ) (d : Device) → (k : ℕ) × (afterOf (replicate k (tick x)) d ≡ ranOf n x d .turned .device)
+  unfolding ranOf afterOf
+  to-run-is-to-call-ticks n d =
+      let k = usedOf n (around (d .text) x) (fine (d .core)) in
+      by (λ (r : Ran). (k : ℕ) × (afterOf (replicate k (tick x)) d ≡ r .turned .device)) (ltb 60000 n)
+      (λ h. (0, refl))
+      (λ h. (k, to-advance-is-to-call-ticks k d))

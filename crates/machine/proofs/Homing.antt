@@ -15,17 +15,18 @@ use Rattle.command.specs.declared.Way.{Way}
 use Rattle.command.specs.declared.Found.{Found}
 use Rattle.command.specs.declared.Found.the-variants as F
 use Rattle.command.specs.Command.{commandAt}
+use Rattle.motion.specs.declared.Sense.{Sense}
 use Rattle.motion.specs.declared.Body.{Body}
 use Rattle.motion.specs.declared.Travel.{Travel}
 use Rattle.motion.specs.declared.Target.{Target}
 use Rattle.motion.specs.declared.Target.the-variants.{At, Outside}
 use Rattle.motion.specs.declared.Activity.{Activity}
-use Rattle.motion.specs.declared.Activity.the-variants.{Initialising, Moving, Delaying, Between}
+use Rattle.motion.specs.declared.Activity.the-variants.{Initialising, Moving, Delaying, Ejecting, Between}
 use Rattle.motion.specs.declared.Effect.{Effect}
-use Rattle.motion.specs.declared.Effect.the-variants.{Goes, Ends, Fails, Opens, Closes}
+use Rattle.motion.specs.declared.Effect.the-variants.{Goes, Ends, Fails, Asks, Opens, Closes}
 use Rattle.motion.specs.Events.{Turn}
 use Rattle.motion.specs.Motion.{laterOf, plungerOf, homeOf, targetOf, setOut, aimed, delayOf, effectOf, carried, waitedOf, onwardOf, between, cutOf}
-use Rattle.motion.proofs.Moves.{move-by}
+use Rattle.motion.proofs.Moves.{move-by, eject-by, ejected-by}
 use Rattle.buffer.specs.declared.course.State.{State}
 use Rattle.buffer.specs.declared.course.State.the-variants.{Empty, Stored, Running, Stopped, Done}
 use Rattle.buffer.specs.declared.course.Loops.{Loops}
@@ -53,6 +54,7 @@ abbrev HomesBy : Activity → Body → Type 0
 HomesBy (Initialising t) b = b .initialised ≡ false
 HomesBy (Moving t) b = Unit {0}
 HomesBy (Delaying k) b = Unit {0}
+HomesBy Ejecting b = Unit {0}
 HomesBy Between b = Unit {0}
 
 abbrev HomesIn : State → Body → Type 0
@@ -69,6 +71,7 @@ abbrev EffectHomes : Effect → Type 0
 EffectHomes (Goes b a) = HomesBy a b
 EffectHomes (Ends b) = Unit {0}
 EffectHomes (Fails why b) = Unit {0}
+EffectHomes Asks = Unit {0}
 EffectHomes Opens = Unit {0}
 EffectHomes (Closes n) = Unit {0}
 
@@ -79,26 +82,28 @@ module _ (b : Body) where
   aimed-homes (At exact) way v = by EffectHomes (eqb (b .plunger) (goalOf exact)) (λ h. tt) (λ h. tt)
   aimed-homes Outside way v = tt
 
-  effect-homes : (k : Command) → EffectHomes (effectOf k b .next)
+  effect-homes : (x : Sense) (k : Command) → EffectHomes (effectOf x k b .next)
   unfolding effectOf homeOf delayOf
-  effect-homes (Command.Initialise n) = by EffectHomes (eqb (b .plunger) 0) (λ h. tt) (λ h. refl)
-  effect-homes (Command.Move way v) =
+  effect-homes x (Command.Initialise n) = by EffectHomes (eqb (b .plunger) 0) (λ h. tt) (λ h. refl)
+  effect-homes x (Command.Move way v) =
       move-by (λ (t : Turn Effect). EffectHomes (t .next)) way v b (λ why. tt) (aimed-homes (targetOf way (millionthsOf v (b .settings .rate)) (b .exact)) way v)
-  effect-homes (Command.Speed pace n) = tt
-  effect-homes (Command.Slopes up down) = tt
-  effect-homes (Command.Backlash n) = tt
-  effect-homes (Command.Compensate n down) = tt
-  effect-homes (Command.Delay ms) = by EffectHomes (eqb (ticksOf ms) 0) (λ h. tt) (λ h. tt)
-  effect-homes Command.Open = tt
-  effect-homes (Command.Close n) = tt
+  effect-homes x (Command.Speed pace n) = tt
+  effect-homes x (Command.Slopes up down) = tt
+  effect-homes x (Command.Backlash n) = tt
+  effect-homes x (Command.Compensate n down) = tt
+  effect-homes x (Command.Delay ms) = by EffectHomes (eqb (ticksOf ms) 0) (λ h. tt) (λ h. tt)
+  effect-homes x (Command.Eject bare) = eject-by EffectHomes bare x b (λ why. tt) tt
+  effect-homes x Command.Open = tt
+  effect-homes x (Command.Close n) = tt
 
   -- a tick of what is in progress
-  onward-homes : (a : Activity) → HomesBy a b → EffectHomes (onwardOf a b .next)
+  onward-homes : (x : Sense) (a : Activity) → HomesBy a b → EffectHomes (onwardOf x a b .next)
   unfolding onwardOf carried waitedOf
-  onward-homes (Initialising t) h = by EffectHomes (eqb (plungerOf (laterOf t)) (t .goal)) (λ e. tt) (λ e. h)
-  onward-homes (Moving t) h = by EffectHomes (eqb (plungerOf (laterOf t)) (t .goal)) (λ e. tt) (λ e. tt)
-  onward-homes (Delaying k) h = by EffectHomes (leb k 1) (λ e. tt) (λ e. tt)
-  onward-homes Between h = tt
+  onward-homes x (Initialising t) h = by EffectHomes (eqb (plungerOf (laterOf t)) (t .goal)) (λ e. tt) (λ e. h)
+  onward-homes x (Moving t) h = by EffectHomes (eqb (plungerOf (laterOf t)) (t .goal)) (λ e. tt) (λ e. tt)
+  onward-homes x (Delaying k) h = by EffectHomes (leb k 1) (λ e. tt) (λ e. tt)
+  onward-homes x Ejecting h = ejected-by EffectHomes x b tt tt
+  onward-homes x Between h = tt
 
 -- where a command has ended, and where a run is stopped, nothing is in progress
 module _ (b : Body) (c : Course) where
@@ -119,21 +124,22 @@ module _ (c : Core) where
   applied-homes (Goes b a) next h = h
   applied-homes (Ends b) next h = reached-homes b (c .course) next (c .course .loops)
   applied-homes (Fails why b) next h = tt
+  applied-homes Asks next h = tt
   applied-homes Opens next h = behind-open WentHomes (c .course) (reached-homes (c .body) (c .course)) tt next
   applied-homes (Closes n) next h = behind-close WentHomes (c .course) (reached-homes (c .body) (c .course)) tt n next
 
-  taken-homes : (f : Found) → Homes (takenOf f c .next .core)
+  taken-homes : (x : Sense) (f : Found) → Homes (takenOf x f c .next .core)
   unfolding takenOf
-  taken-homes (F.Command k next) = applied-homes (effectOf k (c .body) .next) next (effect-homes (c .body) k)
-  taken-homes (F.Refused m) = tt
-  taken-homes F.End = reached-homes (c .body) (c .course) (c .course .at) (c .course .loops)
+  taken-homes x (F.Command k next) = applied-homes (effectOf x k (c .body) .next) next (effect-homes (c .body) x k)
+  taken-homes x (F.Refused m) = tt
+  taken-homes x F.End = reached-homes (c .body) (c .course) (c .course .at) (c .course .loops)
 
   running-homes : (a : Activity) (w : Around) → HomesBy a (c .body) → Homes (runningOf a w c .next .core)
   unfolding runningOf carriedOn
   running-homes a w h =
       by (λ (t : Turn Stepped). Homes (t .next .core)) (between a)
-      (λ e. taken-homes (commandAt (take (c .course .len) (w .text)) (c .course .at)))
-      (λ e. applied-homes (onwardOf a (c .body) .next) (c .course .at) (onward-homes (c .body) a h))
+      (λ e. taken-homes (w .sense) (commandAt (take (c .course .len) (w .text)) (c .course .at)))
+      (λ e. applied-homes (onwardOf (w .sense) a (c .body) .next) (c .course .at) (onward-homes (c .body) (w .sense) a h))
 
   active-homes : (s : State) (w : Around) → HomesIn s (c .body) → Homes c → Homes (activeOf s w c .next .core)
   unfolding activeOf
@@ -175,7 +181,7 @@ module _ (c : Core) where
 -- every call keeps it
 pub a-call-keeps-homing : (k : Call) (d : Device) → Homes (d .core) → Homes (callOf k d .next .core)
 unfolding callOf tickOf haltedOf stepOf stopOf actOf
-a-call-keeps-homing tick d g = active-homes (d .core) (d .core .course .state) _ g g
+a-call-keeps-homing (tick x) d g = active-homes (d .core) (d .core .course .state) _ g g
 a-call-keeps-homing (act a added) d g = acted-homes (d .core) (orderOf a (d .core .course .state)) (verdictFor a added d) (length added) g
 a-call-keeps-homing stop d g = halt-homes (d .core) (d .core .course .state) g
 

@@ -15,9 +15,10 @@ use Rattle.command.proofs.Numbers.{every-number-is-1-to-15}
 use Rattle.command.specs.Command.{commandAt}
 use Rattle.command.specs.Allowed.{Allowed}
 use Rattle.command.proofs.Allowed.{a-command-read-is-allowed}
+use Rattle.motion.specs.declared.Sense.{Sense}
 use Rattle.motion.specs.declared.Activity.{Activity}
 use Rattle.motion.specs.declared.Effect.{Effect}
-use Rattle.motion.specs.declared.Effect.the-variants.{Goes, Ends, Fails, Opens, Closes}
+use Rattle.motion.specs.declared.Effect.the-variants.{Goes, Ends, Fails, Asks, Opens, Closes}
 use Rattle.motion.specs.Events.{Turn}
 use Rattle.motion.specs.Motion.{effectOf, onwardOf, between}
 use Rattle.motion.specs.Bounds.{ActivityOk, EffectOk}
@@ -60,26 +61,27 @@ module _ (c : Core) (ok : Valid c) where
   applied-ok (Goes b a) next h = record { body = h .0; course = record { len = ok .course .len; state = h .1; error = ok .course .error } }
   applied-ok (Ends b) next h = record { body = h; course = reaches next (c .course .loops) }
   applied-ok (Fails why b) next h = record { body = h; course = off why }
+  applied-ok Asks next h = record { body = ok .body; course = record { len = ok .course .len; state = tt; error = ok .course .error } }
   applied-ok Opens next h = behind-open WentOk (c .course) looped (record { body = ok .body; course = off R.Loops }) next
   applied-ok (Closes n) next h = behind-close WentOk (c .course) looped (record { body = ok .body; course = off R.Loops }) n next
 
-  taken-ok : (f : Found) → ((k : Command) (next : ℕ) → f ≡ F.Command k next → Allowed k) → Valid (takenOf f c .next .core)
+  taken-ok : (x : Sense) (f : Found) → ((k : Command) (next : ℕ) → f ≡ F.Command k next → Allowed k) → Valid (takenOf x f c .next .core)
   unfolding takenOf
-  taken-ok (F.Command k next) h = applied-ok (effectOf k (c .body) .next) next (effect-keeps k (c .body) (h k next refl) (ok .body))
-  taken-ok (F.Refused m) h = record { body = ok .body; course = off (R.Misread m) }
-  taken-ok F.End h = looped (c .course .at) (c .course .loops)
+  taken-ok x (F.Command k next) h = applied-ok (effectOf x k (c .body) .next) next (effect-keeps x k (c .body) (h k next refl) (ok .body))
+  taken-ok x (F.Refused m) h = record { body = ok .body; course = off (R.Misread m) }
+  taken-ok x F.End h = looped (c .course .at) (c .course .loops)
 
-  carried-ok : (a : Activity) → ActivityOk a → Valid (carriedOn a c .next .core)
+  carried-ok : (x : Sense) (a : Activity) → ActivityOk a → Valid (carriedOn x a c .next .core)
   unfolding carriedOn
-  carried-ok a h = applied-ok (onwardOf a (c .body) .next) (c .course .at) (onward-keeps a (c .body) h (ok .body))
+  carried-ok x a h = applied-ok (onwardOf x a (c .body) .next) (c .course .at) (onward-keeps x a (c .body) h (ok .body))
 
   running-ok : (a : Activity) (w : Around) → ActivityOk a → Valid (runningOf a w c .next .core)
   unfolding runningOf
   running-ok a w h =
       let t = take (c .course .len) (w .text) in
       by (λ (r : Turn Stepped). Valid (r .next .core)) (between a)
-      (λ e. taken-ok (commandAt t (c .course .at)) (a-command-read-is-allowed t (c .course .at)))
-      (λ e. carried-ok a h)
+      (λ e. taken-ok (w .sense) (commandAt t (c .course .at)) (a-command-read-is-allowed t (c .course .at)))
+      (λ e. carried-ok (w .sense) a h)
 
   active-keeps : (s : State) (w : Around) → StateOk s → Valid (activeOf s w c .next .core)
   unfolding activeOf

@@ -128,8 +128,8 @@ act-keeps a added d ready =
 pub acts-again :
     (a : Action) (added text after : List ℕ) (c d : Core) (o : Order) (v : Verdict) → Valid c → length text ≡ 256 → o ≡ orderOf a (c .course .state) →
     Judged o text added (c .course .len) v → after ≡ storedBy o v (c .course .len) added text → d ≡ actedOf o v (length added) c .next →
-    Acts a added (device text c) after (record { core = d; verdict = v })
+    Acts a added text c after (record { core = d; verdict = v })
 acts-again a added text after c d o v ok long p q s e =
     let is = acts a added text after c d o v p q s e in
-    let same : d ≡ actOf a added (device text c) .next .device .core = ap (λ (x : Acted). x .device .core) is in
-    record { is = is; again = rw same (act-keeps a added (device text c) (record { valid = ok; long = long }) .valid) }
+    let same : d ≡ actOf a added (device text false c) .next .device .core = ap (λ (x : Acted). x .device .core) (is false) in
+    record { is = is; again = rw same (act-keeps a added (device text false c) (record { valid = ok; long = long }) .valid) }

@@ -6,6 +6,7 @@ use Prim.Native.Nat.{ℕ, zero, suc, _+_, _-_, _≤_, _<_}
 use native.Mathlib.Omega.{arith}
 use mir.Syntax.{w32}
 use mir.Val.{Fits}
+use Rattle.motion.specs.declared.Sense.{Sense}
 use Rattle.machine.specs.declared.step.Core.{Core}
 use Rattle.machine.specs.declared.step.Stepped.{Stepped}
 use Rattle.machine.specs.declared.step.Ticked.{Ticked}
@@ -38,32 +39,32 @@ used-leap (suc k) n w s h busy =
     rw less (omega (arith, one, more))
 
 -- so many ticks are used, and what is left of the run makes up the whole
-pub record Running (start : Stepped) (text : List ℕ) (n : ℕ) (s : Stepped) (used : ℕ) : Type 0 where
+pub record Running (start : Stepped) (text : List ℕ) (x : Sense) (n : ℕ) (s : Stepped) (used : ℕ) : Type 0 where
   pub ready : Ready (s .core) text
   pub within : used ≤ n
-  pub here : s ≡ ticksOf used (around text) start
-  pub count : usedOf n (around text) start ≡ used + usedOf (n - used) (around text) s
+  pub here : s ≡ ticksOf used (around text x) start
+  pub count : usedOf n (around text x) start ≡ used + usedOf (n - used) (around text x) s
 
-pub begins : (c : Core) (text : List ℕ) (n : ℕ) → Ready c text → Running (fine c) text n (fine c) 0
+pub begins : (c : Core) (text : List ℕ) (x : Sense) (n : ℕ) → Ready c text → Running (fine c) text x n (fine c) 0
 unfolding ticksOf
-begins c text n r = let z : n - 0 ≡ n = omega arith in record { ready = r; within = omega arith; here = refl; count = rw z (omega arith) }
+begins c text x n r = let z : n - 0 ≡ n = omega arith in record { ready = r; within = omega arith; here = refl; count = rw z (omega arith) }
 
-module _ (first : Core) (text : List ℕ) (n : ℕ) (s : Stepped) (used : ℕ) (r : Running (fine first) text n s used) where
-  stops : usedOf (n - used) (around text) s ≡ 0 → record { stepped = s; used = used } ≡ runOf n (around text) first
+module _ (first : Core) (text : List ℕ) (x : Sense) (n : ℕ) (s : Stepped) (used : ℕ) (r : Running (fine first) text x n s used) where
+  stops : usedOf (n - used) (around text x) s ≡ 0 → record { stepped = s; used = used } ≡ runOf n (around text x) first
   unfolding runOf
-  stops z = let e : usedOf n (around text) (fine first) ≡ used = omega (arith, r .count) in rw (e, r .here)
+  stops z = let e : usedOf n (around text x) (fine first) ≡ used = omega (arith, r .count) in rw (e, r .here)
 
-  pub is-ready : (b : Bool) → b ≡ readyOf (s .core) → b ≡ true → record { stepped = s; used = used } ≡ runOf n (around text) first
-  is-ready b p e = stops (used-none (n - used) (around text) s (sym p ∙ e))
+  pub is-ready : (b : Bool) → b ≡ readyOf (s .core) → b ≡ true → record { stepped = s; used = used } ≡ runOf n (around text x) first
+  is-ready b p e = stops (used-none (n - used) (around text x) s (sym p ∙ e))
 
-  pub is-over : n ≤ used → record { stepped = s; used = used } ≡ runOf n (around text) first
+  pub is-over : n ≤ used → record { stepped = s; used = used } ≡ runOf n (around text x) first
   unfolding usedOf
   is-over h = let z : n - used ≡ 0 = omega arith in stops (rw z)
 
-module _ (start : Stepped) (text : List ℕ) (n : ℕ) (s : Stepped) (used : ℕ) (r : Running start text n s used) where
-  module _ (b : Bool) (d : Ticked) (h : used < n) (p : b ≡ readyOf (s .core)) (e : b ≡ false) (q : d ≡ leaptOf (n - used - 1) (around text) s) where
-    leap : Leaps (around text) s (n - used - 1) d
-    leap = rw q (leaps (around text) s (n - used - 1) (r .ready .valid) (sym p ∙ e))
+module _ (start : Stepped) (text : List ℕ) (x : Sense) (n : ℕ) (s : Stepped) (used : ℕ) (r : Running start text x n s used) where
+  module _ (b : Bool) (d : Ticked) (h : used < n) (p : b ≡ readyOf (s .core)) (e : b ≡ false) (q : d ≡ leaptOf (n - used - 1) (around text x) s) where
+    leap : Leaps (around text x) s (n - used - 1) d
+    leap = rw q (leaps (around text x) s (n - used - 1) (r .ready .valid) (sym p ∙ e))
 
     pub fits : Fits w32 n → Fits w32 (used + d .used)
     fits f = omega (arith, leap .within)
@@ -71,13 +72,13 @@ module _ (start : Stepped) (text : List ℕ) (n : ℕ) (s : Stepped) (used : ℕ
     pub falls : n - (used + d .used) < n - used
     falls = omega (arith, leap .some)
 
-    pub goes-on : Running start text n (d .stepped) (used + d .used)
+    pub goes-on : Running start text x n (d .stepped) (used + d .used)
     goes-on =
         let less : n - (used + d .used) ≡ n - used - d .used = omega arith in
-        let count = used-leap (d .used) (n - used) (around text) s (omega (arith, leap .within)) (leap .busy) in
+        let count = used-leap (d .used) (n - used) (around text x) s (omega (arith, leap .within)) (leap .busy) in
         record {
-          ready = record { valid = rw (leap .here) (ticks-keep (d .used) (around text) s (r .ready .valid)); long = r .ready .long };
+          ready = record { valid = rw (leap .here) (ticks-keep (d .used) (around text x) s (r .ready .valid)); long = r .ready .long };
           within = omega (arith, leap .within);
-          here = leap .here ∙ ap (λ (x : Stepped). ticksOf (d .used) (around text) x) (r .here) ∙ sym (ticks-sum used (d .used) (around text) start);
+          here = leap .here ∙ ap (λ (y : Stepped). ticksOf (d .used) (around text x) y) (r .here) ∙ sym (ticks-sum used (d .used) (around text x) start);
           count = rw (less, leap .here) (omega (arith, r .count, count));
         }

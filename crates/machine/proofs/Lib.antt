@@ -1,5 +1,6 @@
 pub mod Stepping
 pub mod Looping
+pub mod Ways
 pub mod Keeps
 pub mod Runs
 pub mod Acting
@@ -16,6 +17,7 @@ pub mod Stored
 pub mod OnWay
 pub mod OnCourse
 pub mod Failures
+pub mod Tips
 pub mod Resuming
 pub mod Examples
 pub mod Runnings

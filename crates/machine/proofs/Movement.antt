@@ -106,29 +106,29 @@ module _ (kind : Travel → Activity) (known : Bool → Bool) (is : Kind kind kn
 
     further :
         (k j : ℕ) (d e : Stepped) → UnderWay kind t s k d →
-        e ≡ stepped (core (bodyAt (plungerOf (since t j)) (d .core .body)) (inState (Running (kind (since t j))) (d .core .course))) (d .failed) → UnderWay kind t s j e
+        e ≡ stepped (core (bodyAt (plungerOf (since t j)) (d .core .body)) (inState (Running (kind (since t j))) (d .core .course))) (d .news) → UnderWay kind t s j e
     further k j d e h q =
         rw q
-        (record { plunger = λ l. refl; body = h .body; course = ap (λ (x : Course). inState (Running (kind (since t j))) x) (h .course); failed = h .failed })
+        (record { plunger = λ l. refl; body = h .body; course = ap (λ (x : Course). inState (Running (kind (since t j))) x) (h .course); news = h .news })
 
     under-way : (k : ℕ) → k < timeOf t → UnderWay kind t s k (ticksOf k w s)
     unfolding ticksOf
     under-way zero h =
-        record { plunger = λ l. absurd (omega arith); body = refl; course = ap (λ (x : State). inState x (s .core .course)) running; failed = refl }
+        record { plunger = λ l. absurd (omega arith); body = refl; course = ap (λ (x : State). inState x (s .core .course)) running; news = refl }
     under-way (suc k) h =
         let so-far = under-way k (omega arith) in
         let d = ticksOf k w s in
         let on = goes-on (d .core) (since t k) (ap (λ (x : Course). x .state) (so-far .course)) (rw (add-one k) (away t moves (suc k) h)) in
         further k (suc k) d (ticksOf (suc k) w s) so-far (ticks-more k w s ∙ rw (add-one k) at (next-fine w d _ on))
 
-    same-end : (k : ℕ) (d : Stepped) → UnderWay kind t s k d → stepped (arrivedOf (known (d .core .body .initialised)) (since t k) (d .core)) (d .failed) ≡ stepped (arrivedOf (known (s .core .body .initialised)) t (s .core)) (s .failed)
+    same-end : (k : ℕ) (d : Stepped) → UnderWay kind t s k d → stepped (arrivedOf (known (d .core .body .initialised)) (since t k) (d .core)) (d .news) ≡ stepped (arrivedOf (known (s .core .body .initialised)) t (s .core)) (s .news)
     unfolding arrivedOf reached
     same-end k d h =
-        ap (λ (b : Body). stepped (core (bodyKnown (known (b .initialised)) (bodyAt (t .goal) b)) (reached (d .core .course .at) (d .core .course .loops) (d .core .course))) (d .failed)) (h .body)
-        ∙ ap (λ (x : Course). stepped (core (bodyKnown (known (s .core .body .initialised)) (bodyAt (t .goal) (s .core .body))) (reached (x .at) (x .loops) x)) (d .failed)) (h .course)
-        ∙ ap (stepped _) (h .failed)
+        ap (λ (b : Body). stepped (core (bodyKnown (known (b .initialised)) (bodyAt (t .goal) b)) (reached (d .core .course .at) (d .core .course .loops) (d .core .course))) (d .news)) (h .body)
+        ∙ ap (λ (x : Course). stepped (core (bodyKnown (known (s .core .body .initialised)) (bodyAt (t .goal) (s .core .body))) (reached (x .at) (x .loops) x)) (d .news)) (h .course)
+        ∙ ap (stepped _) (h .news)
 
-    arrives : (n : ℕ) → n ≡ timeOf t → (t .from ≡ t .goal → ⊥) → ticksOf n w s ≡ stepped (arrivedOf (known (s .core .body .initialised)) t (s .core)) (s .failed)
+    arrives : (n : ℕ) → n ≡ timeOf t → (t .from ≡ t .goal → ⊥) → ticksOf n w s ≡ stepped (arrivedOf (known (s .core .body .initialised)) t (s .core)) (s .news)
     unfolding arrivedOf
     arrives zero e far = absurd (far (sym (sets-out t) ∙ rw e (there t moves)))
     arrives (suc k) e far =
@@ -143,12 +143,12 @@ module _ (w : Around) (s : Stepped) (ok : Valid (s .core)) (t : Travel) where
     pub a-move-goes-on-until-its-time : (k : ℕ) → k < timeOf t → UnderWay Moving t s k (ticksOf k w s)
     a-move-goes-on-until-its-time = under-way Moving (λ i. i) a-move w s t ok running
 
-    pub a-move-arrives-in-its-time : (t .from ≡ t .goal → ⊥) → ticksOf (timeOf t) w s ≡ stepped (arrivedOf (s .core .body .initialised) t (s .core)) (s .failed)
+    pub a-move-arrives-in-its-time : (t .from ≡ t .goal → ⊥) → ticksOf (timeOf t) w s ≡ stepped (arrivedOf (s .core .body .initialised) t (s .core)) (s .news)
     a-move-arrives-in-its-time = arrives Moving (λ i. i) a-move w s t ok running (timeOf t) refl
 
   module _ (running : s .core .course .state ≡ Running (Initialising (since t 0))) where
     pub initialising-goes-on-until-its-time : (k : ℕ) → k < timeOf t → UnderWay Initialising t s k (ticksOf k w s)
     initialising-goes-on-until-its-time = under-way Initialising (λ i. true) initialising w s t ok running
 
-    pub initialising-arrives-in-its-time : (t .from ≡ t .goal → ⊥) → ticksOf (timeOf t) w s ≡ stepped (arrivedOf true t (s .core)) (s .failed)
+    pub initialising-arrives-in-its-time : (t .from ≡ t .goal → ⊥) → ticksOf (timeOf t) w s ≡ stepped (arrivedOf true t (s .core)) (s .news)
     initialising-arrives-in-its-time = arrives Initialising (λ i. true) initialising w s t ok running (timeOf t) refl

@@ -14,17 +14,18 @@ use Rattle.settings.specs.declared.Volume.{Volume}
 use Rattle.settings.specs.Units.{millionthsOf, goalOf, ticksOf}
 use Rattle.command.specs.declared.refusal.Verdict.{Verdict}
 use Rattle.command.specs.declared.refusal.Verdict.the-variants.{Fine, Refused}
+use Rattle.motion.specs.declared.Sense.{Sense}
 use Rattle.motion.specs.declared.Body.{Body}
 use Rattle.motion.specs.declared.Travel.{Travel}
 use Rattle.motion.specs.declared.Activity.{Activity}
-use Rattle.motion.specs.declared.Activity.the-variants.{Initialising, Moving, Delaying, Between}
+use Rattle.motion.specs.declared.Activity.the-variants.{Initialising, Moving, Delaying, Ejecting, Between}
 use Rattle.motion.specs.declared.Target.{Target}
 use Rattle.motion.specs.declared.Target.the-variants as Target
 use Rattle.motion.specs.declared.Effect.{Effect}
-use Rattle.motion.specs.declared.Effect.the-variants.{Goes, Ends, Fails, Opens, Closes}
+use Rattle.motion.specs.declared.Effect.the-variants.{Goes, Ends, Fails, Asks, Opens, Closes}
 use Rattle.motion.specs.Events.{Turn}
 use Rattle.motion.specs.Motion.{laterOf, plungerOf, homeOf, targetOf, setOut, aimed, delayOf, effectOf, carried, waitedOf, onwardOf, between}
-use Rattle.motion.proofs.Moves.{move-by}
+use Rattle.motion.proofs.Moves.{move-by, eject-by, ejected-by}
 use Rattle.command.specs.declared.Way.{Way}
 use Rattle.command.specs.declared.Command.{Command}
 use Rattle.command.specs.declared.Command.the-variants as C
@@ -79,6 +80,7 @@ abbrev pub Fits : Effect → Part → Type 0
 Fits (Goes b a) p = (p ≡ plain) × (between a ≡ false)
 Fits (Ends b) p = p ≡ plain
 Fits (Fails why b) p = Unit {0}
+Fits Asks p = p ≡ plain
 Fits Opens p = p ≡ opens
 Fits (Closes n) p = p ≡ closes n
 
@@ -87,18 +89,19 @@ unfolding aimed setOut
 aimed-fits (Target.At exact) way v b = by (λ (e : Effect). Fits e plain) (eqb (b .plunger) (goalOf exact)) (λ h. refl) (λ h. (refl, refl))
 aimed-fits Target.Outside way v b = tt
 
-pub effect-fits : (k : Command) (b : Body) → Fits (effectOf k b .next) (partOf k)
+pub effect-fits : (x : Sense) (k : Command) (b : Body) → Fits (effectOf x k b .next) (partOf k)
 unfolding effectOf homeOf delayOf
-effect-fits (C.Initialise n) b = by (λ (e : Effect). Fits e plain) (eqb (b .plunger) 0) (λ h. refl) (λ h. (refl, refl))
-effect-fits (C.Move way v) b =
+effect-fits x (C.Initialise n) b = by (λ (e : Effect). Fits e plain) (eqb (b .plunger) 0) (λ h. refl) (λ h. (refl, refl))
+effect-fits x (C.Move way v) b =
     move-by (λ (e : Turn Effect). Fits (e .next) plain) way v b (λ why. tt) (aimed-fits (targetOf way (millionthsOf v (b .settings .rate)) (b .exact)) way v b)
-effect-fits (C.Speed pace n) b = refl
-effect-fits (C.Slopes up down) b = refl
-effect-fits (C.Backlash n) b = refl
-effect-fits (C.Compensate n down) b = refl
-effect-fits (C.Delay ms) b = by (λ (e : Effect). Fits e plain) (eqb (ticksOf ms) 0) (λ h. refl) (λ h. (refl, refl))
-effect-fits C.Open b = refl
-effect-fits (C.Close n) b = refl
+effect-fits x (C.Speed pace n) b = refl
+effect-fits x (C.Slopes up down) b = refl
+effect-fits x (C.Backlash n) b = refl
+effect-fits x (C.Compensate n down) b = refl
+effect-fits x (C.Delay ms) b = by (λ (e : Effect). Fits e plain) (eqb (ticksOf ms) 0) (λ h. refl) (λ h. (refl, refl))
+effect-fits x (C.Eject bare) b = eject-by (λ (e : Effect). Fits e plain) bare x b (λ why. tt) refl
+effect-fits x C.Open b = refl
+effect-fits x (C.Close n) b = refl
 
 -- a tick of what is in progress: it goes on, or has ended
 carried-fits : (kind : Travel → Activity) (known : Bool) (t : Travel) (b : Body) → between (kind t) ≡ false → Fits (carried kind known t b) plain
@@ -109,12 +112,13 @@ waited-fits : (k : ℕ) (b : Body) → Fits (waitedOf k b) plain
 unfolding waitedOf
 waited-fits k b = by (λ (x : Effect). Fits x plain) (leb k 1) (λ h. refl) (λ h. (refl, refl))
 
-pub onward-fits : (a : Activity) (b : Body) → Fits (onwardOf a b .next) plain
+pub onward-fits : (x : Sense) (a : Activity) (b : Body) → Fits (onwardOf x a b .next) plain
 unfolding onwardOf
-onward-fits (Initialising t) b = carried-fits Initialising true (laterOf t) b refl
-onward-fits (Moving t) b = carried-fits Moving (b .initialised) (laterOf t) b refl
-onward-fits (Delaying k) b = waited-fits k b
-onward-fits Between b = refl
+onward-fits x (Initialising t) b = carried-fits Initialising true (laterOf t) b refl
+onward-fits x (Moving t) b = carried-fits Moving (b .initialised) (laterOf t) b refl
+onward-fits x (Delaying k) b = waited-fits k b
+onward-fits x Ejecting b = ejected-by (λ (e : Effect). Fits e plain) x b tt refl
+onward-fits x Between b = refl
 
 -- a tick
 module _ (text : List ℕ) (c : Course) (all : length (take (c .len) text) ≡ c .len) where
@@ -166,6 +170,7 @@ module _ (text : List ℕ) (c : Core) (all : length (take (c .course .len) text)
   plain-on (Goes b a) at p w = gone-on-on text (c .course) all a at (p .1) w
   plain-on (Ends b) at p w = reached-on text (c .course) all at (c .course .loops) w
   plain-on (Fails why b) at p w = tt
+  plain-on Asks at p w = gone-on-on text (c .course) all Ejecting at refl w
   plain-on Opens at p w = let z : _≡_ {A = ℕ} 0 1 = cc in absurd (omega arith)
   plain-on (Closes n) at p w = let z : _≡_ {A = ℕ} 0 1 = cc in absurd (omega arith)
 
@@ -175,44 +180,45 @@ module _ (text : List ℕ) (c : Core) (all : length (take (c .course .len) text)
     applied-on (Goes b a) p = plain-on (Goes b a) (n .next) (refl, p .1) (way-on (take (c .course .len) text) (c .course .at) (c .course .loops) w n (p .0))
     applied-on (Ends b) p = plain-on (Ends b) (n .next) refl (way-on (take (c .course .len) text) (c .course .at) (c .course .loops) w n p)
     applied-on (Fails why b) p = tt
+    applied-on Asks p = plain-on Asks (n .next) refl (way-on (take (c .course .len) text) (c .course .at) (c .course .loops) w n p)
     applied-on Opens p = went-on text (openedOf (n .next) (c .course)) (c .body) (c .course) all (opened-on text (c .course) all w n p)
     applied-on (Closes k) p = went-on text (closedOf k (n .next) (c .course)) (c .body) (c .course) all (closed-on text (c .course) all w n k p)
 
-    taken-on : (f : Found) → f ≡ F.Command (n .command) (n .next) → CourseOn text (takenOf f c .next .core .course)
+    taken-on : (x : Sense) (f : Found) → f ≡ F.Command (n .command) (n .next) → CourseOn text (takenOf x f c .next .core .course)
     unfolding takenOf
-    taken-on f e = rw e (applied-on (effectOf (n .command) (c .body) .next) (effect-fits (n .command) (c .body)))
+    taken-on x f e = rw e (applied-on (effectOf x (n .command) (c .body) .next) (effect-fits x (n .command) (c .body)))
 
-  carried-on : (a : Activity) → OnWay (take (c .course .len) text) (c .course .at) (c .course .loops) → CourseOn text (carriedOn a c .next .core .course)
+  carried-on : (x : Sense) (a : Activity) → OnWay (take (c .course .len) text) (c .course .at) (c .course .loops) → CourseOn text (carriedOn x a c .next .core .course)
   unfolding carriedOn
-  carried-on a w = plain-on (onwardOf a (c .body) .next) (c .course .at) (onward-fits a (c .body)) w
+  carried-on x a w = plain-on (onwardOf x a (c .body) .next) (c .course .at) (onward-fits x a (c .body)) w
 
-  ahead : Ahead (take (c .course .len) text) (c .course .at) (c .course .loops) → CourseOn text (takenOf (commandAt (take (c .course .len) text) (c .course .at)) c .next .core .course)
-  ahead o =
+  ahead : (x : Sense) → Ahead (take (c .course .len) text) (c .course .at) (c .course .loops) → CourseOn text (takenOf x (commandAt (take (c .course .len) text) (c .course .at)) c .next .core .course)
+  ahead x o =
       let t = take (c .course .len) text in
       let n = ahead-of t (c .course .at) (c .course .loops) o in
-      taken-on (o .way) n (commandAt t (c .course .at)) (n .found)
+      taken-on (o .way) n x (commandAt t (c .course .at)) (n .found)
 
-  running-on : (a : Activity) → AheadIf (between a) (take (c .course .len) text) (c .course .at) (c .course .loops) → CourseOn text (runningOf a (around text) c .next .core .course)
+  running-on : (x : Sense) (a : Activity) → AheadIf (between a) (take (c .course .len) text) (c .course .at) (c .course .loops) → CourseOn text (runningOf a (around text x) c .next .core .course)
   unfolding runningOf
-  running-on a o = go (between a) o
+  running-on x a o = go (between a) o
     where
       go :
-          (x : Bool) → AheadIf x (take (c .course .len) text) (c .course .at) (c .course .loops) →
-          CourseOn text ((if x then takenOf (commandAt (take (c .course .len) text) (c .course .at)) c else carriedOn a c) .next .core .course)
-      go true o = ahead o
-      go false o = carried-on a o
+          (y : Bool) → AheadIf y (take (c .course .len) text) (c .course .at) (c .course .loops) →
+          CourseOn text ((if y then takenOf x (commandAt (take (c .course .len) text) (c .course .at)) c else carriedOn x a c) .next .core .course)
+      go true o = ahead x o
+      go false o = carried-on x a o
 
-  active-on : (s : State) → StateOn s (take (c .course .len) text) (c .course .at) (c .course .loops) → CourseOn text (c .course) → CourseOn text (activeOf s (around text) c .next .core .course)
+  active-on : (x : Sense) (s : State) → StateOn s (take (c .course .len) text) (c .course .at) (c .course .loops) → CourseOn text (c .course) → CourseOn text (activeOf s (around text x) c .next .core .course)
   unfolding activeOf
-  active-on (Running a) o was = running-on a o
-  active-on Empty o was = was
-  active-on Stored o was = was
-  active-on Stopped o was = was
-  active-on Done o was = was
+  active-on x (Running a) o was = running-on x a o
+  active-on x Empty o was = was
+  active-on x Stored o was = was
+  active-on x Stopped o was = was
+  active-on x Done o was = was
 
-  pub a-tick-keeps-on-course : CourseOn text (c .course) → CourseOn text (stepOf (around text) c .next .core .course)
+  pub a-tick-keeps-on-course : (x : Sense) → CourseOn text (c .course) → CourseOn text (stepOf (around text x) c .next .core .course)
   unfolding stepOf
-  a-tick-keeps-on-course o = active-on (c .course .state) o o
+  a-tick-keeps-on-course x o = active-on x (c .course .state) o o
 
 -- the start of a run
 starts-on : (t : List ℕ) → MayRun t → Ahead t 0 noLoops
@@ -277,6 +283,7 @@ while-on : (a : Activity) (t : List ℕ) (at : ℕ) (l : Loops) → AheadIf (bet
 while-on (Initialising m) t at l o = tt
 while-on (Moving m) t at l o = tt
 while-on (Delaying k) t at l o = o
+while-on Ejecting t at l o = tt
 while-on Between t at l o = tt
 
 column-on : (s : State) (t : List ℕ) (at : ℕ) (l : Loops) → StateOn s t at l → ColumnOn (columnOf s) t at l
@@ -410,7 +417,7 @@ an-action-keeps-on-course a added d r sent was =
 -- any calls from the fresh device, the strings among them of texts that read
 pub a-call-keeps-on-course : (k : Call) (d : Device) → Ready (d .core) (d .text) → SentBy k → OnCourse d → OnCourse (callOf k d .next)
 unfolding callOf tickOf haltedOf
-a-call-keeps-on-course tick d r g o = a-tick-keeps-on-course (d .text) (d .core) (text-all d r) o
+a-call-keeps-on-course (tick x) d r g o = a-tick-keeps-on-course (d .text) (d .core) (text-all d r) x o
 a-call-keeps-on-course (act a added) d r g o = an-action-keeps-on-course a added d r g o
 a-call-keeps-on-course stop d r g o = a-stop-keeps-on-course (d .text) (d .core) (text-all d r) o
 
@@ -420,7 +427,7 @@ the-fresh-device-is-on-course = tt
 
 call-keeps-ready : (k : Call) (d : Device) → Ready (d .core) (d .text) → Ready (callOf k d .next .core) (callOf k d .next .text)
 unfolding callOf tickOf haltedOf
-call-keeps-ready tick d r = record { valid = step-keeps (d .core) (r .valid) (around (d .text)); long = r .long }
+call-keeps-ready (tick x) d r = record { valid = step-keeps (d .core) (r .valid) (around (d .text) x); long = r .long }
 call-keeps-ready (act a added) d r = act-keeps a added d r
 call-keeps-ready stop d r = record { valid = stop-keeps (d .core) (r .valid); long = r .long }
 

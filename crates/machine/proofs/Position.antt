@@ -20,17 +20,18 @@ use Rattle.command.specs.declared.refusal.Verdict.the-variants.{Fine, Refused}
 use Rattle.command.specs.declared.Found.{Found}
 use Rattle.command.specs.declared.Found.the-variants as F
 use Rattle.command.specs.Command.{commandAt}
+use Rattle.motion.specs.declared.Sense.{Sense}
 use Rattle.motion.specs.declared.Body.{Body}
 use Rattle.motion.specs.declared.Travel.{Travel}
 use Rattle.motion.specs.declared.Activity.{Activity}
-use Rattle.motion.specs.declared.Activity.the-variants.{Initialising, Moving, Delaying, Between}
+use Rattle.motion.specs.declared.Activity.the-variants.{Initialising, Moving, Delaying, Ejecting, Between}
 use Rattle.motion.specs.declared.Effect.{Effect}
-use Rattle.motion.specs.declared.Effect.the-variants.{Goes, Ends, Fails, Opens, Closes}
+use Rattle.motion.specs.declared.Effect.the-variants.{Goes, Ends, Fails, Asks, Opens, Closes}
 use Rattle.motion.specs.declared.Target.{Target}
 use Rattle.motion.specs.declared.Target.the-variants.{At, Outside}
 use Rattle.motion.specs.Events.{Turn}
 use Rattle.motion.specs.Motion.{laterOf, plungerOf, homeOf, within, targetOf, setOut, eventOf, aimed, moveOf, delayOf, effectOf, carried, waitedOf, onwardOf, inMotion, between, cutOf, resetOf}
-use Rattle.motion.proofs.Moves.{move-by}
+use Rattle.motion.proofs.Moves.{move-by, eject-by, ejected-by}
 use Rattle.buffer.specs.declared.course.State.{State}
 use Rattle.buffer.specs.declared.course.State.the-variants.{Empty, Stored, Running, Stopped, Done}
 use Rattle.buffer.specs.declared.course.Loops.{Loops}
@@ -58,6 +59,7 @@ abbrev toward : Activity → ℕ → ℕ
 toward (Initialising t) plunger = t .goal
 toward (Moving t) plunger = t .goal
 toward (Delaying k) plunger = plunger
+toward Ejecting plunger = plunger
 toward Between plunger = plunger
 
 abbrev heading : State → ℕ → ℕ
@@ -80,6 +82,7 @@ abbrev EffectTold : Body → Effect → Sum → Type 0
 EffectTold b (Goes d a) s = Told (toward a (d .plunger)) (d .exact) s
 EffectTold b (Ends d) s = Told (d .plunger) (d .exact) s
 EffectTold b (Fails why d) s = Told (d .plunger) (d .exact) s
+EffectTold b Asks s = Told (b .plunger) (b .exact) s
 EffectTold b Opens s = Told (b .plunger) (b .exact) s
 EffectTold b (Closes n) s = Told (b .plunger) (b .exact) s
 
@@ -88,6 +91,7 @@ still : (a : Activity) (plunger : ℕ) → inMotion a ≡ false → toward a plu
 still (Initialising t) p h = absurd (true≢false h)
 still (Moving t) p h = absurd (true≢false h)
 still (Delaying k) p h = refl
+still Ejecting p h = refl
 still Between p h = refl
 
 pub at-rest : (s : State) (plunger : ℕ) → moving s ≡ false → heading s plunger ≡ plunger
@@ -156,17 +160,18 @@ module _ (b : Body) (s : Sum) (told : Told (b .plunger) (b .exact) s) where
   unfolding delayOf
   delay-tells ms = by (λ (e : Effect). EffectTold b e s) (eqb (ticksOf ms) 0) (λ h. told) (λ h. told)
 
-  effect-tells : (k : Command) → EffectTold b (effectOf k b .next) (addedUp s (effectOf k b .events))
+  effect-tells : (x : Sense) (k : Command) → EffectTold b (effectOf x k b .next) (addedUp s (effectOf x k b .events))
   unfolding effectOf addedUp
-  effect-tells (Command.Initialise n) = home-tells n
-  effect-tells (Command.Move way v) = move-tells way v
-  effect-tells (Command.Speed pace n) = told
-  effect-tells (Command.Slopes up down) = told
-  effect-tells (Command.Backlash n) = told
-  effect-tells (Command.Compensate n down) = told
-  effect-tells (Command.Delay ms) = delay-tells ms
-  effect-tells Command.Open = told
-  effect-tells (Command.Close n) = told
+  effect-tells x (Command.Initialise n) = home-tells n
+  effect-tells x (Command.Move way v) = move-tells way v
+  effect-tells x (Command.Speed pace n) = told
+  effect-tells x (Command.Slopes up down) = told
+  effect-tells x (Command.Backlash n) = told
+  effect-tells x (Command.Compensate n down) = told
+  effect-tells x (Command.Delay ms) = delay-tells ms
+  effect-tells x (Command.Eject bare) = eject-by (λ (e : Effect). EffectTold b e s) bare x b (λ why. told) told
+  effect-tells x Command.Open = told
+  effect-tells x (Command.Close n) = told
 
 -- a tick of what is in progress: a movement that ends stands at its goal
 carried-tells :
@@ -183,12 +188,13 @@ waited-tells : (k : ℕ) (b : Body) (s : Sum) → Told (b .plunger) (b .exact) s
 unfolding waitedOf
 waited-tells k b s told = by (λ (e : Effect). EffectTold b e s) (leb k 1) (λ h. told) (λ h. told)
 
-onward-tells : (a : Activity) (b : Body) (s : Sum) → Told (toward a (b .plunger)) (b .exact) s → EffectTold b (onwardOf a b .next) (addedUp s (onwardOf a b .events))
+onward-tells : (x : Sense) (a : Activity) (b : Body) (s : Sum) → Told (toward a (b .plunger)) (b .exact) s → EffectTold b (onwardOf x a b .next) (addedUp s (onwardOf x a b .events))
 unfolding onwardOf addedUp
-onward-tells (Initialising t) b s told = carried-tells Initialising true t b s (λ u p. refl) told
-onward-tells (Moving t) b s told = carried-tells Moving (b .initialised) t b s (λ u p. refl) told
-onward-tells (Delaying k) b s told = waited-tells k b s told
-onward-tells Between b s told = told
+onward-tells x (Initialising t) b s told = carried-tells Initialising true t b s (λ u p. refl) told
+onward-tells x (Moving t) b s told = carried-tells Moving (b .initialised) t b s (λ u p. refl) told
+onward-tells x (Delaying k) b s told = waited-tells k b s told
+onward-tells x Ejecting b s told = ejected-by (λ (e : Effect). EffectTold b e s) x b told told
+onward-tells x Between b s told = told
 
 -- a movement that is cut starts anew at the plunger
 cut-tells : (a : Activity) (b : Body) (s : Sum) → Told (toward a (b .plunger)) (b .exact) s → Told (cutOf a b .next .plunger) (cutOf a b .next .exact) (addedUp s (cutOf a b .events))
@@ -203,6 +209,7 @@ idle : (a : Activity) (plunger : ℕ) → between a ≡ true → toward a plunge
 idle (Initialising t) p h = absurd (false≢true h)
 idle (Moving t) p h = absurd (false≢true h)
 idle (Delaying k) p h = absurd (false≢true h)
+idle Ejecting p h = absurd (false≢true h)
 idle Between p h = refl
 
 -- a command that has ended leaves nothing that moves
@@ -233,25 +240,26 @@ module _ (c : Core) where
   applied-tells (Goes b a) next s told = told
   applied-tells (Ends b) next s told = ended-tells b next (c .course .loops) s told
   applied-tells (Fails why b) next s told = told
+  applied-tells Asks next s told = told
   applied-tells Opens next s told = behind-open (WentTold s) (c .course) (λ at l. ended-tells (c .body) at l s told) told next
   applied-tells (Closes n) next s told = behind-close (WentTold s) (c .course) (λ at l. ended-tells (c .body) at l s told) told n next
 
-  taken-tells : (f : Found) (s : Sum) → Told (c .body .plunger) (c .body .exact) s → CoreTold (takenOf f c .next .core) (addedUp s (takenOf f c .events))
+  taken-tells : (x : Sense) (f : Found) (s : Sum) → Told (c .body .plunger) (c .body .exact) s → CoreTold (takenOf x f c .next .core) (addedUp s (takenOf x f c .events))
   unfolding takenOf addedUp
-  taken-tells (F.Command k next) s told = applied-tells (effectOf k (c .body) .next) next _ (effect-tells (c .body) s told k)
-  taken-tells (F.Refused m) s told = told
-  taken-tells F.End s told = ended-tells (c .body) (c .course .at) (c .course .loops) s told
+  taken-tells x (F.Command k next) s told = applied-tells (effectOf x k (c .body) .next) next _ (effect-tells (c .body) s told x k)
+  taken-tells x (F.Refused m) s told = told
+  taken-tells x F.End s told = ended-tells (c .body) (c .course .at) (c .course .loops) s told
 
-  carried-on-tells : (a : Activity) (s : Sum) → Told (toward a (c .body .plunger)) (c .body .exact) s → CoreTold (carriedOn a c .next .core) (addedUp s (carriedOn a c .events))
+  carried-on-tells : (x : Sense) (a : Activity) (s : Sum) → Told (toward a (c .body .plunger)) (c .body .exact) s → CoreTold (carriedOn x a c .next .core) (addedUp s (carriedOn x a c .events))
   unfolding carriedOn
-  carried-on-tells a s told = applied-tells (onwardOf a (c .body) .next) (c .course .at) _ (onward-tells a (c .body) s told)
+  carried-on-tells x a s told = applied-tells (onwardOf x a (c .body) .next) (c .course .at) _ (onward-tells x a (c .body) s told)
 
   running-tells : (a : Activity) (w : Around) (s : Sum) → Told (toward a (c .body .plunger)) (c .body .exact) s → CoreTold (runningOf a w c .next .core) (addedUp s (runningOf a w c .events))
   unfolding runningOf
   running-tells a w s told =
       by (λ (t : Turn Stepped). CoreTold (t .next .core) (addedUp s (t .events))) (between a)
-      (λ h. taken-tells (commandAt (take (c .course .len) (w .text)) (c .course .at)) s (rw (idle a (c .body .plunger) h) at told))
-      (λ h. carried-on-tells a s told)
+      (λ h. taken-tells (w .sense) (commandAt (take (c .course .len) (w .text)) (c .course .at)) s (rw (idle a (c .body .plunger) h) at told))
+      (λ h. carried-on-tells (w .sense) a s told)
 
 module _ (c : Core) (s : Sum) (told : CoreTold c s) where
   active-tells : (st : State) (w : Around) → Told (heading st (c .body .plunger)) (c .body .exact) s → CoreTold (activeOf st w c .next .core) (addedUp s (activeOf st w c .events))
@@ -310,6 +318,7 @@ busy-moving : (a : Activity) → inMotion a ≡ true → whileOf a ≡ K.Busy
 busy-moving (Initialising t) h = refl
 busy-moving (Moving t) h = refl
 busy-moving (Delaying k) h = absurd (false≢true h)
+busy-moving Ejecting h = absurd (false≢true h)
 busy-moving Between h = refl
 
 while-moving : (a : Action) (s : State) → moving s ≡ true → Mild (orderOf a s)

@@ -35,7 +35,7 @@ use Rattle.machine.specs.Refusals.{storedIn, verdictFor, numberFor, Noth
 
 -- "a refusal changes nothing but the last error"
 module _ (a : Action) (added : List ℕ) (d : Device) (why : Refusal) (refused : verdictFor a added d ≡ Refused why) where
-  pub a-refusal-sets-the-error-only : actOf a added d .next ≡ acted (d .text) (coreError (refusalNumber why) 0 (d .core)) (Refused why)
+  pub a-refusal-sets-the-error-only : actOf a added d .next ≡ acted (d .text) (d .tip) (coreError (refusalNumber why) 0 (d .core)) (Refused why)
   unfolding actOf actedOf storedBy
   a-refusal-sets-the-error-only = rw refused
 

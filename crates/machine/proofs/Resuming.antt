@@ -46,25 +46,25 @@ a-stop-stands-before-the-next-command a c e h = rw (e, cut-body a (c .body), lt-
 -- R in Stopped: "resumes"
 pub a-run-resumes :
     (added : List ℕ) (d : Device) → d .core .course .state ≡ Stopped →
-    actOf A.Run added d .next ≡ acted (d .text) (core (d .core .body) (withError 0 0 (inState (Running Between) (d .core .course)))) Fine
+    actOf A.Run added d .next ≡ acted (d .text) (d .tip) (core (d .core .body) (withError 0 0 (inState (Running Between) (d .core .course)))) Fine
 unfolding actOf actedOf cellOf verdictOf loopsBy doneOf changedOf storedBy laidBy
 a-run-resumes added d e = rw e
 
 -- R in a delay: "ends a delay (Done at once if that was the last command)": no command is taken before the next tick
 pub a-run-in-a-delay-takes-no-command :
     (k : ℕ) (added : List ℕ) (d : Device) → d .core .course .state ≡ Running (Delaying k) →
-    actOf A.Run added d ≡ quiet (acted (d .text) (core (d .core .body) (withError 0 0 (reached (d .core .course .at) (d .core .course .loops) (d .core .course)))) Fine)
+    actOf A.Run added d ≡ quiet (acted (d .text) (d .tip) (core (d .core .body) (withError 0 0 (reached (d .core .course .at) (d .core .course .loops) (d .core .course)))) Fine)
 unfolding actOf actedOf cellOf verdictOf loopsBy doneOf changedOf storedBy laidBy
 a-run-in-a-delay-takes-no-command k added d e = rw e
 
 -- T and then R: the same place, loops and settings, and the exact position the plunger's where a movement was cut
 pub a-stopped-run-goes-on-where-it-was :
     (a : Activity) (added : List ℕ) (d : Device) → d .core .course .state ≡ Running a → d .core .course .at < d .core .course .len →
-    actOf A.Run added (haltedOf d .next) .next ≡ acted (d .text) (core (cutBody a (d .core .body)) (withError 0 0 (inState (Running Between) (d .core .course)))) Fine
+    actOf A.Run added (haltedOf d .next) .next ≡ acted (d .text) (d .tip) (core (cutBody a (d .core .body)) (withError 0 0 (inState (Running Between) (d .core .course)))) Fine
 unfolding haltedOf
 a-stopped-run-goes-on-where-it-was a added d e h =
     rw (a-stop-stands-before-the-next-command a (d .core) e h)
-    (a-run-resumes added (device (d .text) (core (cutBody a (d .core .body)) (inState Stopped (d .core .course)))) refl)
+    (a-run-resumes added (device (d .text) (d .tip) (core (cutBody a (d .core .body)) (inState Stopped (d .core .course)))) refl)
 
 -- "0 is endless": its G always goes back, and its passes are not counted
 pub an-endless-loop-goes-round-again : (p : ℕ) → passOf 0 p ≡ Again p

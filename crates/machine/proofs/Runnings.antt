@@ -1,5 +1,6 @@
 -- Runs that loop and runs that fail, computed from the definitions: what `specs/OnCourse` speaks of is met.
 use mathlib.Core.Path.{_≡_, refl}
+use mathlib.Core.Bool.{false}
 use mathlib.Core.List.{List, [], _∷_}
 use Prim.Native.Nat.{ℕ}
 use Prim.Native.String.{String}
@@ -32,7 +33,7 @@ use Rattle.machine.proofs.OnCourse.{every-device-is-on-course}
 
 -- a text is run for so many ticks
 abbrev runs : String → ℕ → List Call
-runs text n = act Launch (chars text) ∷ replicate n tick
+runs text n = act Launch (chars text) ∷ replicate n (tick (record { tip = false }))
 
 pub record Shown : Type 0 where
   pub state : State

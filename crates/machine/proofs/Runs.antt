@@ -1,6 +1,6 @@
 -- Laws of `specs/Run`, and that a run's count is the least number of ticks after which it is ready, up to the allowance.
 use mathlib.Core.Path.{_≡_, refl, sym, ap, _∙_}
-use mathlib.Core.Bool.{Bool, true, false, false≢true}
+use mathlib.Core.Bool.{Bool, true, false, _||_, false≢true}
 use Prim.Native.Nat.{ℕ, zero, suc, _+_, _-_, _≤_, _<_}
 use native.Mathlib.Numerals.{sub-one}
 use native.Mathlib.Omega.{arith}
@@ -12,8 +12,9 @@ use Rattle.command.specs.Numbers.{firstOf}
 use Rattle.buffer.specs.declared.course.State.{State}
 use Rattle.buffer.specs.declared.course.State.the-variants as State
 use Rattle.machine.specs.declared.step.Core.{Core}
+use Rattle.machine.specs.declared.step.News.{News}
 use Rattle.machine.specs.declared.step.Stepped.{Stepped}
-use Rattle.machine.specs.Step.{Around, fine, stepped, activeOf, stepOf, nextOf}
+use Rattle.machine.specs.Step.{Around, news, noNews, bothOf, fine, stepped, activeOf, stepOf, nextOf}
 use Rattle.machine.specs.Run.{readyIn, readyOf, ticksOf, usedOf}
 
 -- a tick more, at the end
@@ -45,10 +46,17 @@ first-fine : (v : Verdict) → firstOf v Fine ≡ v
 first-fine Fine = refl
 first-fine (Refused why) = refl
 
+or-nothing : (x : Bool) → (x || false) ≡ x
+or-nothing true = refl
+or-nothing false = refl
+
+no-more-news : (n : News) → bothOf n noNews ≡ n
+no-more-news n = ap (λ (v : Verdict). news v (n .eject || false)) (first-fine (n .failed)) ∙ ap (news (n .failed)) (or-nothing (n .eject))
+
 -- a tick in which nothing fails
-pub next-fine : (w : Around) (s : Stepped) (d : Core) → stepOf w (s .core) .next ≡ fine d → nextOf w s ≡ stepped d (s .failed)
+pub next-fine : (w : Around) (s : Stepped) (d : Core) → stepOf w (s .core) .next ≡ fine d → nextOf w s ≡ stepped d (s .news)
 unfolding nextOf
-next-fine w s d e = ap (λ (t : Stepped). stepped (t .core) (firstOf (s .failed) (t .failed))) e ∙ ap (stepped d) (first-fine (s .failed))
+next-fine w s d e = ap (λ (t : Stepped). stepped (t .core) (bothOf (s .news) (t .news))) e ∙ ap (stepped d) (no-more-news (s .news))
 
 pub ready-stays : (w : Around) (s : Stepped) → readyOf (s .core) ≡ true → nextOf w s ≡ s
 unfolding stepOf

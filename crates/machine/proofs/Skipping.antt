@@ -10,25 +10,25 @@ use mir.Syntax.{w32}
 use mir.Val.{Fits}
 use Rattle.settings.specs.Units.{ticksFor}
 use Rattle.basics.specs.Choice.{if_then_else_}
+use Rattle.motion.specs.declared.Sense.{Sense}
 use Rattle.motion.specs.declared.Body.{Body}
 use Rattle.motion.specs.declared.Effect.the-variants.{Goes, Ends}
 use Rattle.motion.specs.declared.Travel.{Travel}
 use Rattle.motion.specs.declared.Activity.{Activity}
-use Rattle.motion.specs.declared.Activity.the-variants.{Initialising, Moving, Delaying, Between}
+use Rattle.motion.specs.declared.Activity.the-variants.{Initialising, Moving, Delaying, Ejecting, Between}
 use Rattle.motion.specs.Bounds.{TravelOk, ActivityOk}
-use Rattle.command.specs.declared.refusal.Verdict.{Verdict}
-use Rattle.command.specs.Numbers.{firstOf}
 use Rattle.motion.specs.Motion.{laterOf, plungerOf, bodyAt, bodyKnown, carried}
 use Rattle.motion.proofs.Keeps.{not-arrived}
 use Rattle.buffer.specs.declared.course.State.{State}
 use Rattle.buffer.specs.declared.course.State.the-variants.{Empty, Stored, Running, Stopped, Done}
 use Rattle.buffer.specs.declared.course.Course.{Course}
 use Rattle.machine.specs.declared.step.Core.{Core}
+use Rattle.machine.specs.declared.step.News.{News}
 use Rattle.machine.specs.declared.step.Stepped.{Stepped}
 use Rattle.machine.specs.declared.step.Ticked.{Ticked}
 use Rattle.machine.specs.declared.skip.Skipped.{Skipped}
 use Rattle.buffer.specs.Course.{inState}
-use Rattle.machine.specs.Step.{Around, around, core, stepped, appliedOf, stepOf, nextOf}
+use Rattle.machine.specs.Step.{Around, around, core, bothOf, stepped, appliedOf, stepOf, nextOf}
 use Rattle.machine.specs.Run.{readyOf, ticksOf}
 use Rattle.machine.specs.Valid.{StateOk, Valid, Ready}
 use Rattle.machine.specs.Movement.{distanceOf, timeOf, since}
@@ -84,9 +84,9 @@ unfolding timeOf
 same-time t = refl
 
 -- ticks that come to the same after other ones
-next-same : (w : Around) (c d : Core) (v : Verdict) → stepOf w c .next ≡ stepOf w d .next → nextOf w (stepped c v) ≡ nextOf w (stepped d v)
+next-same : (w : Around) (c d : Core) (v : News) → stepOf w c .next ≡ stepOf w d .next → nextOf w (stepped c v) ≡ nextOf w (stepped d v)
 unfolding nextOf
-next-same w c d v e = ap (λ (t : Stepped). stepped (t .core) (firstOf v (t .failed))) e
+next-same w c d v e = ap (λ (t : Stepped). stepped (t .core) (bothOf v (t .news))) e
 
 -- what goes on or ends is the body that is left, whatever it was before
 either : (x : Bool) (d e : Body) (a : Activity) (at : ℕ) (b f : Body) (k : Course) →
@@ -114,15 +114,15 @@ module _ (kind : Travel → Activity) (known : Bool → Bool) (is : Kind kind kn
 
   -- the next tick of a movement that doesn't arrive in it
   further : (s : Stepped) (t : Travel) → s .core .course .state ≡ Running (kind t) → 0 < t .speed → t .ticks + 1 < timeOf t →
-      nextOf w s ≡ stepped (core (bodyAt (plungerOf (laterOf t)) (s .core .body)) (inState (Running (kind (laterOf t))) (s .core .course))) (s .failed)
+      nextOf w s ≡ stepped (core (bodyAt (plungerOf (laterOf t)) (s .core .body)) (inState (Running (kind (laterOf t))) (s .core .course))) (s .news)
   further s t run moves h = next-fine w s _ (goes-on kind known is w (s .core) t run (away t moves (t .ticks + 1) h))
 
   leap : (n : ℕ) (s : Stepped) (t : Travel) → s .core .course .state ≡ Running (kind t) → 0 < t .speed → (0 < n → t .ticks + n < timeOf t) →
-      ticksOf (suc n) w s ≡ nextOf w (stepped (passed t n (s .core)) (s .failed))
+      ticksOf (suc n) w s ≡ nextOf w (stepped (passed t n (s .core)) (s .news))
   unfolding ticksOf
   leap zero s t run moves h =
       let c = s .core in
-      next-same w c (passed t 0 c) (s .failed)
+      next-same w c (passed t 0 c) (s .news)
       (ap (λ (x : State). stepOf w (core (c .body) (inState x (c .course))) .next) run
       ∙ counted t c (t .ticks) (t .ticks + 0) (omega arith))
   leap (suc n) s t run moves h =
@@ -132,8 +132,8 @@ module _ (kind : Travel → Activity) (known : Bool → Bool) (is : Kind kind kn
       let x = Running (kind (laterOf t)) in
       let d = core (bodyAt p (c .body)) (inState x (c .course)) in
       ap (λ (r : Stepped). ticksOf (suc n) w r) (further s t run moves (omega arith))
-      ∙ leap n (stepped d (s .failed)) (laterOf t) refl moves (λ l. omega (arith, same-time t))
-      ∙ next-same w (passed (laterOf t) n d) (passed t (suc n) c) (s .failed)
+      ∙ leap n (stepped d (s .news)) (laterOf t) refl moves (λ l. omega (arith, same-time t))
+      ∙ next-same w (passed (laterOf t) n d) (passed t (suc n) c) (s .news)
       (wherever c (since t (t .ticks + 1 + n)) p x
       ∙ counted t c (t .ticks + 1 + n) (t .ticks + suc n) (omega arith))
 
@@ -144,7 +144,7 @@ module _ (kind : Travel → Activity) (known : Bool → Bool) (is : Kind kind kn
   busy-on (suc j) zero s t run moves h l = absurd (omega arith)
   busy-on (suc j) (suc n) s t run moves h l =
       let soon = h (omega arith) in
-      let d = stepped (core (bodyAt (plungerOf (laterOf t)) (s .core .body)) (inState (Running (kind (laterOf t))) (s .core .course))) (s .failed) in
+      let d = stepped (core (bodyAt (plungerOf (laterOf t)) (s .core .body)) (inState (Running (kind (laterOf t))) (s .core .course))) (s .news) in
       ap (λ (r : Stepped). readyOf (ticksOf j w r .core)) (further s t run moves (omega arith))
       ∙ busy-on j n d (laterOf t) refl moves (λ k. omega (arith, same-time t)) (omega arith)
 
@@ -155,12 +155,12 @@ pub record Leaps (w : Around) (s : Stepped) (most : ℕ) (r : Ticked) : Type 0 w
   pub here : r .stepped ≡ ticksOf (r .used) w s
   pub busy : (j : ℕ) → j < r .used → readyOf (ticksOf j w s .core) ≡ false
 
-abbrev leapt : Around → Verdict → Skipped → Ticked
+abbrev leapt : Around → News → Skipped → Ticked
 leapt w v k = record { stepped = nextOf w (stepped (k .core) v); used = k .used + 1 }
 
 module _ (w : Around) (s : Stepped) (most : ℕ) where
   by-moving : (kind : Travel → Activity) (known : Bool → Bool) (is : Kind kind known) (t : Travel) → TravelOk t → s .core .course .state ≡ Running (kind t) →
-      Leaps w s most (leapt w (s .failed) (passedBy (kind (since t (t .ticks + spareOf t most))) (spareOf t most) (s .core)))
+      Leaps w s most (leapt w (s .news) (passedBy (kind (since t (t .ticks + spareOf t most))) (spareOf t most) (s .core)))
   by-moving kind known is t ok run =
       let n = spareOf t most in
       let few = spare-within t most in
@@ -172,7 +172,7 @@ module _ (w : Around) (s : Stepped) (most : ℕ) where
         busy = λ j l. busy-on kind known is w j n s t run fast (before-its-time t most) (omega arith);
       }
 
-  by-one : readyOf (s .core) ≡ false → Leaps w s most (leapt w (s .failed) (skipped (s .core) 0))
+  by-one : readyOf (s .core) ≡ false → Leaps w s most (leapt w (s .news) (skipped (s .core) 0))
   unfolding ticksOf
   by-one r = record { some = omega arith; within = omega arith; here = refl; busy = first }
     where
@@ -184,10 +184,11 @@ module _ (w : Around) (s : Stepped) (most : ℕ) where
   unfolding leaptOf skippedOf skippedIn
   leaps ok r = go (s .core .course .state) refl (ok .course .state)
     where
-      go : (x : State) → s .core .course .state ≡ x → StateOk x → Leaps w s most (leapt w (s .failed) (skippedIn x most (s .core)))
+      go : (x : State) → s .core .course .state ≡ x → StateOk x → Leaps w s most (leapt w (s .news) (skippedIn x most (s .core)))
       go (Running (Initialising t)) e o = by-moving Initialising (λ i. _) initialising t o e
       go (Running (Moving t)) e o = by-moving Moving (λ i. i) a-move t o e
       go (Running (Delaying k)) e o = by-one r
+      go (Running Ejecting) e o = by-one r
       go (Running Between) e o = by-one r
       go Empty e o = by-one r
       go Stored e o = by-one r
@@ -218,6 +219,7 @@ module _ (c : Core) (ok : Valid c) (most : ℕ) where
       go (Running (Initialising t)) o = passing Initialising t o (λ h. h)
       go (Running (Moving t)) o = passing Moving t o (λ h. h)
       go (Running (Delaying k)) o = stays
+      go (Running Ejecting) o = stays
       go (Running Between) o = stays
       go Empty o = stays
       go Stored o = stays
@@ -257,6 +259,6 @@ module _ (most : ℕ) (text : List ℕ) (s : Stepped) (k : Skipped) (e : k ≡ s
   pub few-ticks : Ready (s .core) text → Fits w32 (k .used + 1)
   few-ticks r = let few : k .used ≤ 44000 = rw e (skips (s .core) (r .valid) most .few) in omega arith
 
-  pub leap-made : (d : Stepped) → d ≡ nextOf (around text) (stepped (k .core) (s .failed)) → record { stepped = d; used = k .used + 1 } ≡ leaptOf most (around text) s
+  pub leap-made : (x : Sense) (d : Stepped) → d ≡ nextOf (around text x) (stepped (k .core) (s .news)) → record { stepped = d; used = k .used + 1 } ≡ leaptOf most (around text x) s
   unfolding leaptOf
-  leap-made d q = rw (q, e)
+  leap-made x d q = rw (q, e)

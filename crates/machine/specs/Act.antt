@@ -1,6 +1,7 @@
 -- 01, "The buffer": what strings and controls do to the plunger and the buffer.
 use Prim.Native.Nat.{ℕ, _≤_}
 use mathlib.Core.Path.{_≡_}
+use mathlib.Core.Bool.{Bool}
 use mathlib.Core.List.{List}
 use lib.ListN.{length, take}
 use Rattle.basics.specs.Choice.{if_then_else_}
@@ -74,8 +75,8 @@ pub record Acted : Type 0 where
   pub device : Device
   pub verdict : Verdict
 
-abbrev pub acted : List ℕ → Core → Verdict → Acted
-acted text c v = record { device = record { text = text; core = c }; verdict = v }
+abbrev pub acted : List ℕ → Bool → Core → Verdict → Acted
+acted text tip c v = record { device = record { text = text; tip = tip; core = c }; verdict = v }
 
 -- a string or a control, with the characters that come with it: what the table asks, whether it is refused, and what is then done
 unfoldable pub actOf : Action → List ℕ → Device → Turn Acted
@@ -84,4 +85,4 @@ actOf action added d =
     let order = orderOf action (c .course .state) in
     let verdict = verdictOf order (take (c .course .len) (d .text)) added in
     let turn = actedOf order verdict (length added) c in
-    record { next = acted (storedBy order verdict (c .course .len) added (d .text)) (turn .next) verdict; events = turn .events }
+    record { next = acted (storedBy order verdict (c .course .len) added (d .text)) (d .tip) (turn .next) verdict; events = turn .events }

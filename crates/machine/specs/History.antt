@@ -4,6 +4,7 @@ use mathlib.Core.Path.{_≡_}
 use mathlib.Core.Bool.{Bool, true, false}
 use mathlib.Core.List.{List, [], _∷_, _++_}
 use Rattle.settings.specs.Units.{millionthsOf}
+use Rattle.motion.specs.declared.Sense.{Sense}
 use Rattle.motion.specs.Motion.{inMotion}
 use Rattle.motion.specs.Events.{Event, start, volume, Turn}
 use Rattle.buffer.specs.declared.course.State.{State}
@@ -13,14 +14,14 @@ use Rattle.machine.specs.declared.Device.{Device}
 use Rattle.machine.specs.Act.{actOf}
 use Rattle.machine.specs.Device.{freshOf, tickOf, haltedOf}
 
--- a call on a device: a tick, an action with the characters that come with it, the stop
+-- a call on a device: a tick with what the host senses, an action with the characters that come with it, the stop
 pub data Call : Type 0 where
-  tick : Call
+  tick : Sense → Call
   act : Action → List ℕ → Call
   stop : Call
 
 unfoldable pub callOf : Call → Device → Turn Device
-callOf tick d = let t = tickOf d in record { next = t .next .device; events = t .events }
+callOf (tick s) d = let t = tickOf s d in record { next = t .next .device; events = t .events }
 callOf (act a added) d = let t = actOf a added d in record { next = t .next .device; events = t .events }
 callOf stop d = haltedOf d
 

@@ -9,3 +9,4 @@ pub mod Movement
 pub mod Skip
 pub mod Refusals
 pub mod OnCourse
+pub mod Tips

@@ -29,7 +29,7 @@ pub record UnderWay (kind : Travel → Activity) (t : Travel) (s : Stepped) (k :
   pub plunger : 0 < k → r .core .body .plunger ≡ plungerOf (since t k)
   pub body : bodyAt 0 (r .core .body) ≡ bodyAt 0 (s .core .body)
   pub course : r .core .course ≡ inState (Running (kind (since t k))) (s .core .course)
-  pub failed : r .failed ≡ s .failed
+  pub news : r .news ≡ s .news
 
 -- the core in which it has ended: the plunger stands at the goal, and the next command is to be taken, or the text is done
 unfoldable pub arrivedOf : Bool → Travel → Core → Core

@@ -6,7 +6,9 @@ use mathlib.Core.List.{List, [], _∷_}
 use lib.ListN.{length, take}
 use Rattle.command.specs.declared.refusal.Refusal.{Refusal}
 use Rattle.command.specs.declared.refusal.Refusal.the-variants as R
-use Rattle.motion.specs.declared.Activity.the-variants.{Between}
+use Rattle.motion.specs.declared.Sense.{Sense}
+use Rattle.motion.specs.declared.Activity.{Activity}
+use Rattle.motion.specs.declared.Activity.the-variants.{Ejecting, Between}
 use Rattle.motion.specs.declared.Body.{Body}
 use Rattle.motion.specs.declared.Target.the-variants.{Outside}
 use Rattle.motion.specs.Motion.{targetOf, between}
@@ -84,7 +86,7 @@ OnCourse d = CourseOn (d .text) (d .core .course)
 
 -- a string comes with a text that reads; what comes with a control is not looked at
 abbrev pub SentBy : Call → Type 0
-SentBy tick = Unit {0}
+SentBy (tick s) = Unit {0}
 SentBy stop = Unit {0}
 SentBy (act A.Store added) = Loaded added
 SentBy (act A.Launch added) = Loaded added
@@ -117,21 +119,35 @@ pub record Meets (text : List ℕ) (c : Course) : Type 0 where
   pub shallow : partOf command ≡ opens → c .loops .depth < 4
   pub back : (n : ℕ) → partOf command ≡ closes n → HasItsG (take (c .len) text) (record { at = c .at; command = command; next = next }) n (c .loops)
 
--- a movement that a run can't carry out: "7 is checked before 3"
-pub data Failing (k : Command) (b : Body) : Refusal → Type 0 where
-  uninitialised : (way : Way) (v : Volume) → k ≡ C.Move way v → b .initialised ≡ false → Failing k b R.NotInitialised
+-- a command that a run can't carry out: "7 is checked before 3"
+pub data Failing (s : Sense) (k : Command) (b : Body) : Refusal → Type 0 where
+  uninitialised : (way : Way) (v : Volume) → k ≡ C.Move way v → b .initialised ≡ false → Failing s k b R.NotInitialised
   -- 02, W-205: "A, P or D taken while v is greater than V"; "after 7 and before the travel check"
-  steep : (way : Way) (v : Volume) → k ≡ C.Move way v → b .initialised ≡ true → b .settings .top < b .settings .start → Failing k b R.StartAboveTop
+  steep : (way : Way) (v : Volume) → k ≡ C.Move way v → b .initialised ≡ true → b .settings .top < b .settings .start → Failing s k b R.StartAboveTop
   outside :
       (way : Way) (v : Volume) → k ≡ C.Move way v → b .initialised ≡ true → b .settings .start ≤ b .settings .top →
-      targetOf way (millionthsOf v (b .settings .rate)) (b .exact) ≡ Outside → Failing k b R.Outside
+      targetOf way (millionthsOf v (b .settings .rate)) (b .exact) ≡ Outside → Failing s k b R.Outside
+  -- 02, W-203: "10 for E0 without a tip; 7 for E1 uninitialised"
+  tipless : k ≡ C.Eject false → s .tip ≡ false → Failing s k b R.NoTip
+  unready : k ≡ C.Eject true → b .initialised ≡ false → Failing s k b R.NotInitialised
+
+-- and what is in progress and fails: "a tip still there is then an eject failure"
+pub data Breaking (s : Sense) : Activity → Refusal → Type 0 where
+  still-there : s .tip ≡ true → Breaking s Ejecting R.StillThere
+
+-- a tick that takes this command
+pub record Takes (text : List ℕ) (c : Core) (k : Command) : Type 0 where
+  pub next : ℕ
+  pub between : c .course .state ≡ Running Between
+  pub found : commandAt (take (c .course .len) text) (c .course .at) ≡ F.Command k next
+
+-- why a run fails in a tick: in the command that it takes, or in what is in progress
+pub data Cause (text : List ℕ) (s : Sense) (c : Core) (why : Refusal) : Type 0 where
+  taken : (k : Command) → Takes text c k → Failing s k (c .body) why → Cause text s c why
+  judged : (a : Activity) → c .course .state ≡ Running a → Breaking s a why → Cause text s c why
 
 -- a tick in which a run fails
-pub record Fault (text : List ℕ) (c : Core) : Type 0 where
-  pub at-command : c .course .state ≡ Running Between
-  pub command : Command
-  pub next : ℕ
-  pub found : commandAt (take (c .course .len) text) (c .course .at) ≡ F.Command command next
+pub record Fault (text : List ℕ) (s : Sense) (c : Core) : Type 0 where
   pub refusal : Refusal
-  pub why : Failing command (c .body) refusal
-  pub so : stepOf (around text) c .next ≡ fails refusal (c .body) (c .course)
+  pub why : Cause text s c refusal
+  pub so : stepOf (around text s) c .next ≡ fails refusal (c .body) (c .course)

@@ -18,7 +18,6 @@ ghost use Rattle.machine.specs.Valid.{Valid};
 ghost use Rattle.machine.specs.Step.{core};
 ghost use Rattle.machine.specs.Act.{haltOf, stopOf, changedOf, doneOf, coreError, actedOf, Fitting, Judged};
 ghost use Rattle.machine.specs.Acts.{Acts};
-ghost use Rattle.machine.specs.Device.{device};
 
 // What a string or a control leaves of a core, and whether it was refused.
 pub struct Done {
@@ -182,7 +181,7 @@ impl Core {
     // A string or a control with the characters that come with it, over the text's array.
     pub fn act(self, action: Action, added: &[u8], text: &mut [u8; 256]) -> Done
         requires { ⌜ Valid self ⌝ }
-        ensures { λ r. ⌜ Acts action (now (added .entry)) (device (now (text .entry)) self) (now (text .exit)) r ⌝ }
+        ensures { λ r. ⌜ Acts action (now (added .entry)) (now (text .entry)) self (now (text .exit)) r ⌝ }
     {
         let course = self.course;
         let state = course.state;

@@ -120,6 +120,10 @@ impl Core {
                 core: self,
                 used: 0,
             },
+            Activity::Ejecting => Skipped {
+                core: self,
+                used: 0,
+            },
             Activity::Between => Skipped {
                 core: self,
                 used: 0,

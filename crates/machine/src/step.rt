@@ -8,11 +8,12 @@ use command::refusal::Verdict;
 use motion::Activity;
 use motion::Body;
 use motion::Effect;
+use motion::Sense;
 ghost use mathlib.Core.Path.{_≡_};
 ghost use Prim.Native.Nat.{_≤_};
 ghost use lib.ListN.{length, take};
 ghost use Rattle.command.specs.Command.{commandAt};
-ghost use Rattle.machine.specs.Step.{around, fine, fails, wentOf, appliedOf, takenOf, carriedOn, runningOf, stepOf, nextOf};
+ghost use Rattle.machine.specs.Step.{around, bothOf, fine, asking, fails, wentOf, appliedOf, takenOf, carriedOn, runningOf, stepOf, nextOf};
 ghost use Rattle.machine.specs.Run.{readyOf, runOf};
 ghost use Rattle.machine.specs.Skip.{leaptOf};
 ghost use Rattle.machine.specs.Valid.{Ticking, Ready};
@@ -23,10 +24,16 @@ pub struct Core {
     pub course: Course,
 }
 
-// What a tick hands back: the core, and why the run fails if it does.
+// What ticks tell the host: why the run fails if it does, and whether a tip is to be ejected.
+pub struct News {
+    pub failed: Verdict,
+    pub eject: bool,
+}
+
+// What a tick hands back: the core, and what it tells.
 pub struct Stepped {
     pub core: Core,
-    pub failed: Verdict,
+    pub news: News,
 }
 
 // What ticks hand back, and how many they were.
@@ -50,7 +57,10 @@ fn fail(why: Refusal, body: Body, course: Course) -> Stepped
     let off = course.failed(why);
     Stepped {
         core: Core { body, course: off },
-        failed: Verdict::Refused(why),
+        news: News {
+            failed: Verdict::Refused(why),
+            eject: false,
+        },
     }
 }
 
@@ -59,11 +69,22 @@ fn went(went: Went, body: Body, course: Course) -> Stepped
     ensures { λ r. ⌜ r ≡ wentOf went body course ⌝ }
 {
     match went {
-        Went::On(on) => Stepped {
-            core: Core { body, course: on },
-            failed: Verdict::Fine,
-        },
+        Went::On(on) => Core { body, course: on }.fine(),
         Went::Off(why) => fail(why, body, course),
+    }
+}
+
+impl News {
+    // Of two ticks, one after the other: the first failure counts, and either may ask.
+    fn and(self, later: News) -> News
+        ensures { λ r. ⌜ r ≡ bothOf self later ⌝ }
+    {
+        let before = self.failed;
+        let now = later.failed;
+        News {
+            failed: before.first(now),
+            eject: self.eject || later.eject,
+        }
     }
 }
 
@@ -87,7 +108,23 @@ impl Core {
     {
         Stepped {
             core: self,
-            failed: Verdict::Fine,
+            news: News {
+                failed: Verdict::Fine,
+                eject: false,
+            },
+        }
+    }
+
+    // The host is asked to eject.
+    fn asking(self) -> Stepped
+        ensures { λ r. ⌜ r ≡ asking self ⌝ }
+    {
+        Stepped {
+            core: self,
+            news: News {
+                failed: Verdict::Fine,
+                eject: true,
+            },
         }
     }
 
@@ -100,97 +137,92 @@ impl Core {
         match effect {
             Effect::Goes(after, activity) => {
                 let on = course.go_on(activity, next);
-                Stepped {
-                    core: Core {
-                        body: after,
-                        course: on,
-                    },
-                    failed: Verdict::Fine,
-                }
+                Core {
+                    body: after,
+                    course: on,
+                }.fine()
             }
             Effect::Ends(after) => {
                 let loops = course.loops;
                 let on = course.reach(next, loops);
-                Stepped {
-                    core: Core {
-                        body: after,
-                        course: on,
-                    },
-                    failed: Verdict::Fine,
-                }
+                Core {
+                    body: after,
+                    course: on,
+                }.fine()
             }
             Effect::Fails(why, after) => fail(why, after, course),
+            Effect::Asks => {
+                let on = course.go_on(Activity::Ejecting, next);
+                Core { body, course: on }.asking()
+            }
             Effect::Opens => went(course.open(next), body, course),
             Effect::Closes(n) => went(course.close(n, next), body, course),
         }
     }
 
     // The next command is taken.
-    fn take(self, found: Found) -> Stepped
+    fn take(self, found: Found, sense: Sense) -> Stepped
         requires { ⌜ BodyOk (self .body) ⌝ }
-        ensures { λ r. ⌜ r ≡ takenOf found self .next ⌝ }
+        ensures { λ r. ⌜ r ≡ takenOf sense found self .next ⌝ }
     {
         let body = self.body;
         let course = self.course;
         match found {
-            Found::Command(c, next) => self.apply(body.effect(c), next),
+            Found::Command(c, next) => self.apply(body.effect(c, sense), next),
             Found::Refused(m) => fail(Refusal::Misread(m), body, course),
             Found::End => {
                 let at = course.at;
                 let loops = course.loops;
                 let on = course.reach(at, loops);
-                Stepped {
-                    core: Core { body, course: on },
-                    failed: Verdict::Fine,
-                }
+                Core { body, course: on }.fine()
             }
         }
     }
 
     // What is in progress goes on.
-    fn carry_on(self, activity: Activity) -> Stepped
+    fn carry_on(self, activity: Activity, sense: Sense) -> Stepped
         requires { ⌜ ActivityOk activity ⌝ }
-        ensures { λ r. ⌜ r ≡ carriedOn activity self .next ⌝ }
+        ensures { λ r. ⌜ r ≡ carriedOn sense activity self .next ⌝ }
     {
         let body = self.body;
         let course = self.course;
         let at = course.at;
-        self.apply(body.onward(activity), at)
+        self.apply(body.onward(activity, sense), at)
     }
 
     // The command at the place that the course has reached.
-    fn next(self, text: &[u8]) -> Stepped
+    fn next(self, text: &[u8], sense: Sense) -> Stepped
         requires { ⌜ BodyOk (self .body) × (self .course .len ≤ length (now text)) ⌝ }
-        ensures { λ r. ⌜ r ≡ takenOf (commandAt (take (self .course .len) (now (text .entry))) (self .course .at)) self .next ⌝ }
+        ensures { λ r. ⌜ r ≡ takenOf sense (commandAt (take (self .course .len) (now (text .entry))) (self .course .at)) self .next ⌝ }
     {
         let course = self.course;
         let at = course.at;
         let len = course.len;
-        self.take(command_in(text, len, at))
+        self.take(command_in(text, len, at), sense)
     }
 
     // A tick of a run.
-    fn active(self, activity: Activity, text: &[u8]) -> Stepped
+    fn active(self, activity: Activity, text: &[u8], sense: Sense) -> Stepped
         requires { ⌜ Ticking self activity (now text) ⌝ }
-        ensures { λ r. ⌜ r ≡ runningOf activity (around (now (text .entry))) self .next ⌝ }
+        ensures { λ r. ⌜ r ≡ runningOf activity (around (now (text .entry)) sense) self .next ⌝ }
     {
         if activity.between() {
-            return self.next(text);
+            return self.next(text, sense);
         }
-        self.carry_on(activity)
+        self.carry_on(activity, sense)
     }
 
     // A tick.
-    fn step(self, text: &[u8]) -> Stepped
+    fn step(self, text: &[u8], sense: Sense) -> Stepped
         requires { ⌜ Ready self (now text) ⌝ }
-        ensures { λ r. ⌜ r ≡ stepOf (around (now (text .entry))) self .next ⌝ }
+        ensures { λ r. ⌜ r ≡ stepOf (around (now (text .entry)) sense) self .next ⌝ }
     {
         let course = self.course;
         let state = course.state;
         match state {
             State::Empty => self.fine(),
             State::Stored => self.fine(),
-            State::Running(activity) => self.active(activity, text),
+            State::Running(activity) => self.active(activity, text, sense),
             State::Stopped => self.fine(),
             State::Done => self.fine(),
         }
@@ -198,38 +230,34 @@ impl Core {
 }
 
 impl Stepped {
-    // A tick more: the first failure counts.
-    fn next(self, text: &[u8]) -> Stepped
+    // A tick more.
+    fn next(self, text: &[u8], sense: Sense) -> Stepped
         requires { ⌜ Ready (self .core) (now text) ⌝ }
-        ensures { λ r. ⌜ r ≡ nextOf (around (now (text .entry))) self ⌝ }
+        ensures { λ r. ⌜ r ≡ nextOf (around (now (text .entry)) sense) self ⌝ }
     {
         let core = self.core;
-        let before = self.failed;
-        let stepped = core.step(text);
+        let before = self.news;
+        let stepped = core.step(text, sense);
         let after = stepped.core;
-        let now = stepped.failed;
-        let failed = before.first(now);
+        let now = stepped.news;
         Stepped {
             core: after,
-            failed,
+            news: before.and(now),
         }
     }
 
     // The ticks passed over, of so many, and the next tick.
-    fn leap(self, text: &[u8], most: u32) -> Ticked
+    fn leap(self, text: &[u8], sense: Sense, most: u32) -> Ticked
         requires { ⌜ Ready (self .core) (now text) ⌝ }
-        ensures { λ r. ⌜ r ≡ leaptOf most (around (now (text .entry))) self ⌝ }
+        ensures { λ r. ⌜ r ≡ leaptOf most (around (now (text .entry)) sense) self ⌝ }
     {
         let core = self.core;
-        let failed = self.failed;
+        let news = self.news;
         let skipped = core.skip(most);
         let n = skipped.used;
         let later = skipped.core;
-        let before = Stepped {
-            core: later,
-            failed,
-        };
-        let stepped = before.next(text);
+        let before = Stepped { core: later, news };
+        let stepped = before.next(text, sense);
         Ticked {
             stepped,
             used: n + 1,
@@ -238,13 +266,16 @@ impl Stepped {
 }
 
 // Up to n ticks, until ready.
-pub fn run(start: Core, text: &[u8], n: u32) -> Ticked
+pub fn run(start: Core, text: &[u8], n: u32, sense: Sense) -> Ticked
     requires { ⌜ Ready start (now text) ⌝ }
-    ensures { λ r. ⌜ r ≡ runOf n (around (now (text .entry))) start ⌝ }
+    ensures { λ r. ⌜ r ≡ runOf n (around (now (text .entry)) sense) start ⌝ }
 {
     let mut s = Stepped {
         core: start,
-        failed: Verdict::Fine,
+        news: News {
+            failed: Verdict::Fine,
+            eject: false,
+        },
     };
     let mut used = 0;
     while used < n {
@@ -253,7 +284,7 @@ pub fn run(start: Core, text: &[u8], n: u32) -> Ticked
             return Ticked { stepped: s, used };
         }
         let left = n - used;
-        let leapt = s.leap(text, left - 1);
+        let leapt = s.leap(text, sense, left - 1);
         s = leapt.stepped;
         used += leapt.used;
     }

@@ -7,6 +7,7 @@ use Rattle.settings.specs.declared.Settings.{Settings}
 use Rattle.settings.specs.declared.Pace.{Pace}
 use Rattle.command.specs.declared.Way.{Way}
 use Rattle.command.specs.declared.Command.{Command}
+use Rattle.motion.specs.declared.Sense.{Sense}
 use Rattle.motion.specs.declared.Body.{Body}
 use Rattle.motion.specs.declared.Travel.{Travel}
 use Rattle.motion.specs.declared.Activity.{Activity}
@@ -21,15 +22,15 @@ target-case k j by exact r p e = rw p e
 pub pace-case : (k j : Pace) (n : ℕ) (s r : Settings) → k ≡ j → r ≡ pacedOf j n s → r ≡ pacedOf k n s
 pace-case k j n s r p e = rw p e
 
-pub effect-case : (k j : Command) (b : Body) (r : Effect) → k ≡ j → r ≡ effectOf j b .next → r ≡ effectOf k b .next
-effect-case k j b r p e = rw p e
+pub effect-case : (s : Sense) (k j : Command) (b : Body) (r : Effect) → k ≡ j → r ≡ effectOf s j b .next → r ≡ effectOf s k b .next
+effect-case s k j b r p e = rw p e
 
 -- a setting changed
-pub setting-case : (k j : Command) (s t : Settings) (b : Body) (r : Effect) → k ≡ j → s ≡ t → r ≡ setTo s b → setTo t b ≡ effectOf j b .next → r ≡ effectOf k b .next
-setting-case k j s t b r p q e d = rw p (e ∙ ap (λ (x : Settings). setTo x b) q ∙ d)
+pub setting-case : (x : Sense) (k j : Command) (s t : Settings) (b : Body) (r : Effect) → k ≡ j → s ≡ t → r ≡ setTo s b → setTo t b ≡ effectOf x j b .next → r ≡ effectOf x k b .next
+setting-case x k j s t b r p q e d = rw p (e ∙ ap (λ (x : Settings). setTo x b) q ∙ d)
 
-pub onward-case : (k j : Activity) (b : Body) (r : Effect) → k ≡ j → r ≡ onwardOf j b .next → r ≡ onwardOf k b .next
-onward-case k j b r p e = rw p e
+pub onward-case : (s : Sense) (k j : Activity) (b : Body) (r : Effect) → k ≡ j → r ≡ onwardOf s j b .next → r ≡ onwardOf s k b .next
+onward-case s k j b r p e = rw p e
 
 -- a movement that has arrived, and one that has not
 module _ (kind : Travel → Activity) (known : Bool) (t : Travel) (b : Body) (p : ℕ) (e : p ≡ plungerOf t) (d : Body) (r : Effect) where

@@ -22,10 +22,11 @@ use Rattle.command.specs.declared.Way.{Way}
 use Rattle.command.specs.declared.Command.{Command}
 use Rattle.command.specs.declared.Command.the-variants as C
 use Rattle.command.specs.Allowed.{Allowed}
+use Rattle.motion.specs.declared.Sense.{Sense}
 use Rattle.motion.specs.declared.Body.{Body}
 use Rattle.motion.specs.declared.Travel.{Travel}
 use Rattle.motion.specs.declared.Activity.{Activity}
-use Rattle.motion.specs.declared.Activity.the-variants.{Initialising, Moving, Delaying, Between}
+use Rattle.motion.specs.declared.Activity.the-variants.{Initialising, Moving, Delaying, Ejecting, Between}
 use Rattle.motion.specs.declared.Target.{Target}
 use Rattle.motion.specs.declared.Target.the-variants.{At, Outside}
 use Rattle.motion.specs.declared.Effect.{Effect}
@@ -33,7 +34,7 @@ use Rattle.motion.specs.Events.{Turn}
 use Rattle.motion.specs.Motion.{travel, laterOf, plungerOf, homeOf, targetOf, setOut, aimed, moveOf, pacedOf, slopedOf, backlashOf, ratedOf, delayOf, effectOf, carried, waitedOf, onwardOf, inMotion, cutOf, resetOf, freshBody}
 use Rattle.motion.specs.Bounds.{BodyOk, TravelOk, ActivityOk, EffectOk}
 use Rattle.motion.proofs.Within.{target-within}
-use Rattle.motion.proofs.Moves.{move-by}
+use Rattle.motion.proofs.Moves.{move-by, eject-by, ejected-by}
 
 -- a movement's plunger lies between its two ends
 pub plunger-between : (t : Travel) → t .from ≤ 44000 → t .goal ≤ 44000 → plungerOf t ≤ 44000
@@ -101,26 +102,27 @@ paced-kept Start n s h k = record { top = k .top; start = h; cutoff = k .cutoff;
 paced-kept Cutoff n s h k = record { top = k .top; start = k .start; cutoff = h; acceleration = k .acceleration; deceleration = k .deceleration; backlash = k .backlash; rate = k .rate }
 
 -- a command within 01's limits
-pub effect-keeps : (c : Command) (b : Body) → Allowed c → BodyOk b → EffectOk (effectOf c b .next)
+pub effect-keeps : (s : Sense) (c : Command) (b : Body) → Allowed c → BodyOk b → EffectOk (effectOf s c b .next)
 unfolding effectOf Allowed
-effect-keeps (C.Initialise n) b h ok = home-keeps b ok n (h .least)
-effect-keeps (C.Move way v) b h ok = move-keeps b ok way v
-effect-keeps (C.Speed pace n) b h ok = set-with b ok (pacedOf pace n (b .settings)) (paced-kept pace n (b .settings) h (ok .settings))
-effect-keeps (C.Slopes up down) b h ok =
+effect-keeps s (C.Initialise n) b h ok = home-keeps b ok n (h .least)
+effect-keeps s (C.Move way v) b h ok = move-keeps b ok way v
+effect-keeps s (C.Speed pace n) b h ok = set-with b ok (pacedOf pace n (b .settings)) (paced-kept pace n (b .settings) h (ok .settings))
+effect-keeps s (C.Slopes up down) b h ok =
     let k = ok .settings in
     set-with b ok (slopedOf up down (b .settings))
     (record { top = k .top; start = k .start; cutoff = k .cutoff; acceleration = h .0; deceleration = h .1; backlash = k .backlash; rate = k .rate })
-effect-keeps (C.Backlash n) b h ok =
+effect-keeps s (C.Backlash n) b h ok =
     let k = ok .settings in
     set-with b ok (backlashOf n (b .settings))
     (record { top = k .top; start = k .start; cutoff = k .cutoff; acceleration = k .acceleration; deceleration = k .deceleration; backlash = h; rate = k .rate })
-effect-keeps (C.Compensate n down) b h ok =
+effect-keeps s (C.Compensate n down) b h ok =
     let k = ok .settings in
     set-with b ok (ratedOf (rateOf n down) (b .settings))
     (record { top = k .top; start = k .start; cutoff = k .cutoff; acceleration = k .acceleration; deceleration = k .deceleration; backlash = k .backlash; rate = every-b-makes-a-rate-allowed n down h })
-effect-keeps (C.Delay ms) b h ok = delay-keeps b ok ms
-effect-keeps C.Open b h ok = tt
-effect-keeps (C.Close n) b h ok = tt
+effect-keeps s (C.Delay ms) b h ok = delay-keeps b ok ms
+effect-keeps s (C.Eject bare) b h ok = eject-by EffectOk bare s b (λ why. ok) tt
+effect-keeps s C.Open b h ok = tt
+effect-keeps s (C.Close n) b h ok = tt
 
 -- a tick of what is in progress
 carried-keeps : (kind : Travel → Activity) (known : Bool) (t : Travel) (b : Body) → ((u : Travel) → TravelOk u → ActivityOk (kind u)) → BodyOk b → TravelOk t → EffectOk (carried kind known (laterOf t) b)
@@ -139,12 +141,13 @@ waited-keeps : (k : ℕ) (b : Body) → BodyOk b → EffectOk (waitedOf k b)
 unfolding waitedOf
 waited-keeps k b ok = by EffectOk (leb k 1) (λ e. ok) (λ e. (ok, tt))
 
-pub onward-keeps : (a : Activity) (b : Body) → ActivityOk a → BodyOk b → EffectOk (onwardOf a b .next)
+pub onward-keeps : (s : Sense) (a : Activity) (b : Body) → ActivityOk a → BodyOk b → EffectOk (onwardOf s a b .next)
 unfolding onwardOf
-onward-keeps (Initialising t) b go ok = carried-keeps Initialising true t b (λ u h. h) ok go
-onward-keeps (Moving t) b go ok = carried-keeps Moving (b .initialised) t b (λ u h. h) ok go
-onward-keeps (Delaying k) b go ok = waited-keeps k b ok
-onward-keeps Between b go ok = ok
+onward-keeps s (Initialising t) b go ok = carried-keeps Initialising true t b (λ u h. h) ok go
+onward-keeps s (Moving t) b go ok = carried-keeps Moving (b .initialised) t b (λ u h. h) ok go
+onward-keeps s (Delaying k) b go ok = waited-keeps k b ok
+onward-keeps s Ejecting b go ok = ejected-by EffectOk s b ok ok
+onward-keeps s Between b go ok = ok
 
 -- a cut, a reset and a fresh body
 at-plunger : (b : Body) → BodyOk b → BodyOk (record { plunger = b .plunger; exact = b .plunger * 1000000; initialised = b .initialised; settings = b .settings })

@@ -4,9 +4,9 @@ use Rattle.settings.specs.Limits.{travelMost, Kept}
 use Rattle.motion.specs.declared.Body.{Body}
 use Rattle.motion.specs.declared.Travel.{Travel}
 use Rattle.motion.specs.declared.Effect.{Effect}
-use Rattle.motion.specs.declared.Effect.the-variants.{Goes, Ends, Fails, Opens, Closes}
+use Rattle.motion.specs.declared.Effect.the-variants.{Goes, Ends, Fails, Asks, Opens, Closes}
 use Rattle.motion.specs.declared.Activity.{Activity}
-use Rattle.motion.specs.declared.Activity.the-variants.{Initialising, Moving, Delaying, Between}
+use Rattle.motion.specs.declared.Activity.the-variants.{Initialising, Moving, Delaying, Ejecting, Between}
 
 pub record BodyOk (b : Body) : Type 0 where
   pub plunger : b .plunger ≤ 44000
@@ -24,11 +24,13 @@ abbrev pub ActivityOk : Activity → Type 0
 ActivityOk (Initialising t) = TravelOk t
 ActivityOk (Moving t) = TravelOk t
 ActivityOk (Delaying k) = Unit {0}
+ActivityOk Ejecting = Unit {0}
 ActivityOk Between = Unit {0}
 
 abbrev pub EffectOk : Effect → Type 0
 EffectOk (Goes b a) = BodyOk b × ActivityOk a
 EffectOk (Ends b) = BodyOk b
 EffectOk (Fails why b) = BodyOk b
+EffectOk Asks = Unit {0}
 EffectOk Opens = Unit {0}
 EffectOk (Closes n) = Unit {0}

@@ -14,12 +14,13 @@ use Rattle.command.specs.declared.Way.the-variants.{To, Up, Down}
 use Rattle.command.specs.declared.refusal.Refusal.the-variants as R
 use Rattle.command.specs.declared.Command.{Command}
 use Rattle.command.specs.declared.Command.the-variants as C
+use Rattle.motion.specs.declared.Sense.{Sense}
 use Rattle.motion.specs.declared.Body.{Body}
 use Rattle.motion.specs.declared.Travel.{Travel}
 use Rattle.motion.specs.declared.Activity.{Activity}
-use Rattle.motion.specs.declared.Activity.the-variants.{Initialising, Moving, Delaying, Between}
+use Rattle.motion.specs.declared.Activity.the-variants.{Initialising, Moving, Delaying, Ejecting, Between}
 use Rattle.motion.specs.declared.Effect.{Effect}
-use Rattle.motion.specs.declared.Effect.the-variants.{Goes, Ends, Fails, Opens, Closes}
+use Rattle.motion.specs.declared.Effect.the-variants.{Goes, Ends, Fails, Asks, Opens, Closes}
 use Rattle.motion.specs.declared.Target.{Target}
 use Rattle.motion.specs.declared.Target.the-variants.{At, Outside}
 use Rattle.motion.specs.Events.{Event, start, volume, Turn, quiet, told}
@@ -122,17 +123,25 @@ setTo s b = Ends (bodySet s b)
 unfoldable pub delayOf : ℕ → Body → Effect
 delayOf ms b = if eqb (ticksOf ms) 0 then Ends b else Goes b (Delaying (ticksOf ms))
 
+-- 02, W-203: "The tick that takes it asks the host to eject"; "10 for E0 without a tip; 7 for E1 uninitialised". "E0 is judged by the tip of the tick that takes it."
+unfoldable pub ejectOf : Bool → Sense → Body → Effect
+ejectOf bare s b =
+    if bare
+    then (if b .initialised then Asks else Fails R.NotInitialised b)
+    else (if s .tip then Asks else Fails R.NoTip b)
+
 -- a command that is taken
-unfoldable pub effectOf : Command → Body → Turn Effect
-effectOf (C.Initialise speed) b = homeOf speed b
-effectOf (C.Move way v) b = moveOf way v b
-effectOf (C.Speed pace n) b = quiet (setTo (pacedOf pace n (b .settings)) b)
-effectOf (C.Slopes up down) b = quiet (setTo (slopedOf up down (b .settings)) b)
-effectOf (C.Backlash n) b = quiet (setTo (backlashOf n (b .settings)) b)
-effectOf (C.Compensate n down) b = quiet (setTo (ratedOf (rateOf n down) (b .settings)) b)
-effectOf (C.Delay ms) b = quiet (delayOf ms b)
-effectOf C.Open b = quiet Opens
-effectOf (C.Close n) b = quiet (Closes n)
+unfoldable pub effectOf : Sense → Command → Body → Turn Effect
+effectOf s (C.Initialise speed) b = homeOf speed b
+effectOf s (C.Move way v) b = moveOf way v b
+effectOf s (C.Speed pace n) b = quiet (setTo (pacedOf pace n (b .settings)) b)
+effectOf s (C.Slopes up down) b = quiet (setTo (slopedOf up down (b .settings)) b)
+effectOf s (C.Backlash n) b = quiet (setTo (backlashOf n (b .settings)) b)
+effectOf s (C.Compensate n down) b = quiet (setTo (ratedOf (rateOf n down) (b .settings)) b)
+effectOf s (C.Delay ms) b = quiet (delayOf ms b)
+effectOf s (C.Eject bare) b = quiet (ejectOf bare s b)
+effectOf s C.Open b = quiet Opens
+effectOf s (C.Close n) b = quiet (Closes n)
 
 -- a tick of a movement: the plunger where the distance gone puts it; once that is the goal it has ended, and W then sets "initialised"
 unfoldable pub carried : (Travel → Activity) → Bool → Travel → Body → Effect
@@ -144,24 +153,31 @@ carried kind known t b =
 unfoldable pub waitedOf : ℕ → Body → Effect
 waitedOf k b = if leb k 1 then Ends b else Goes b (Delaying (k - 1))
 
+-- 02, W-203: "the next one ends it, and a tip still there is then an eject failure"
+unfoldable pub ejectedOf : Sense → Body → Effect
+ejectedOf s b = if s .tip then Fails R.StillThere b else Ends b
+
 -- a tick of what is in progress; between two commands nothing is
-unfoldable pub onwardOf : Activity → Body → Turn Effect
-onwardOf (Initialising t) b = quiet (carried Initialising true (laterOf t) b)
-onwardOf (Moving t) b = quiet (carried Moving (b .initialised) (laterOf t) b)
-onwardOf (Delaying k) b = quiet (waitedOf k b)
-onwardOf Between b = quiet (Ends b)
+unfoldable pub onwardOf : Sense → Activity → Body → Turn Effect
+onwardOf s (Initialising t) b = quiet (carried Initialising true (laterOf t) b)
+onwardOf s (Moving t) b = quiet (carried Moving (b .initialised) (laterOf t) b)
+onwardOf s (Delaying k) b = quiet (waitedOf k b)
+onwardOf s Ejecting b = quiet (ejectedOf s b)
+onwardOf s Between b = quiet (Ends b)
 
 -- which of what can be in progress is a movement, and which is none of it: between two commands
 abbrev pub inMotion : Activity → Bool
 inMotion (Initialising t) = true
 inMotion (Moving t) = true
 inMotion (Delaying k) = false
+inMotion Ejecting = false
 inMotion Between = false
 
 abbrev pub between : Activity → Bool
 between (Initialising t) = false
 between (Moving t) = false
 between (Delaying k) = false
+between Ejecting = false
 between Between = true
 
 -- the exact position "is the plunger's" "after a cut movement or a reset"

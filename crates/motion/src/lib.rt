@@ -11,7 +11,7 @@ ghost use mathlib.Core.Bool.{true};
 ghost use Prim.Native.Nat.{_≤_};
 ghost use Rattle.settings.specs.Limits.{travelMost};
 ghost use Rattle.settings.specs.Units.{rateOf};
-ghost use Rattle.motion.specs.Motion.{travel, laterOf, plungerOf, bodyAt, bodyFor, bodyKnown, atPlunger, homeOf, targetOf, within, setOut, aimed, moveOf, pacedOf, slopedOf, backlashOf, ratedOf, setTo, delayOf, effectOf, carried, waitedOf, onwardOf, inMotion, between, cutOf, resetOf, freshBody};
+ghost use Rattle.motion.specs.Motion.{travel, laterOf, plungerOf, bodyAt, bodyFor, bodyKnown, atPlunger, homeOf, targetOf, within, setOut, aimed, moveOf, pacedOf, slopedOf, backlashOf, ratedOf, setTo, delayOf, ejectOf, effectOf, carried, waitedOf, ejectedOf, onwardOf, inMotion, between, cutOf, resetOf, freshBody};
 ghost use Rattle.motion.specs.Bounds.{BodyOk, TravelOk, ActivityOk};
 
 // The exact position counts millionths of an increment.
@@ -30,19 +30,26 @@ pub struct Travel {
     pub ticks: u32,
 }
 
-// What is in progress. A delay has so many ticks left.
+// What a host hands in with a tick: whether it sees a tip.
+pub struct Sense {
+    pub tip: bool,
+}
+
+// What is in progress. A delay has so many ticks left. The host was asked to eject the tip, and the next tick judges it.
 pub enum Activity {
     Initialising(Travel),
     Moving(Travel),
     Delaying(u32),
+    Ejecting,
     Between,
 }
 
-// What a command that is taken does, or a tick of what is in progress: it goes on, has ended, or fails, with the body it leaves; or a loop begins or ends.
+// What a command that is taken does, or a tick of what is in progress: it goes on, has ended, or fails, with the body it leaves; or the host is asked to eject; or a loop begins or ends.
 pub enum Effect {
     Goes(Body, Activity),
     Ends(Body),
     Fails(Refusal, Body),
+    Asks,
     Opens,
     Closes(u32),
 }
@@ -62,6 +69,7 @@ impl Activity {
             Activity::Initialising(_) => true,
             Activity::Moving(_) => true,
             Activity::Delaying(_) => false,
+            Activity::Ejecting => false,
             Activity::Between => false,
         }
     }
@@ -74,6 +82,7 @@ impl Activity {
             Activity::Initialising(_) => false,
             Activity::Moving(_) => false,
             Activity::Delaying(_) => false,
+            Activity::Ejecting => false,
             Activity::Between => true,
         }
     }
@@ -302,10 +311,26 @@ impl Body {
         Effect::Goes(self, Activity::Delaying(k))
     }
 
+    // E, with a tip or, where it does without one, initialised.
+    fn eject(self, bare: bool, sense: Sense) -> Effect
+        ensures { λ r. ⌜ r ≡ ejectOf bare sense self ⌝ }
+    {
+        if !bare {
+            if sense.tip {
+                return Effect::Asks;
+            }
+            return Effect::Fails(Refusal::NoTip, self);
+        }
+        if self.initialised {
+            return Effect::Asks;
+        }
+        Effect::Fails(Refusal::NotInitialised, self)
+    }
+
     // What a command does.
-    pub fn effect(self, c: Command) -> Effect
+    pub fn effect(self, c: Command, sense: Sense) -> Effect
         requires { ⌜ BodyOk self ⌝ }
-        ensures { λ r. ⌜ r ≡ effectOf c self .next ⌝ }
+        ensures { λ r. ⌜ r ≡ effectOf sense c self .next ⌝ }
     {
         let settings = self.settings;
         match c {
@@ -316,6 +341,7 @@ impl Body {
             Command::Backlash(n) => self.set_to(backlashed(n, settings)),
             Command::Compensate(b, down) => self.set_to(compensated(b, down, settings)),
             Command::Delay(ms) => self.delay(ms),
+            Command::Eject(bare) => self.eject(bare, sense),
             Command::Open => Effect::Opens,
             Command::Close(n) => Effect::Closes(n),
         }
@@ -366,15 +392,26 @@ impl Body {
         Effect::Goes(self, Activity::Delaying(k - 1))
     }
 
+    // The tick after the one that took E.
+    fn ejected(self, sense: Sense) -> Effect
+        ensures { λ r. ⌜ r ≡ ejectedOf sense self ⌝ }
+    {
+        if sense.tip {
+            return Effect::Fails(Refusal::StillThere, self);
+        }
+        Effect::Ends(self)
+    }
+
     // A tick of what is in progress.
-    pub fn onward(self, activity: Activity) -> Effect
+    pub fn onward(self, activity: Activity, sense: Sense) -> Effect
         requires { ⌜ ActivityOk activity ⌝ }
-        ensures { λ r. ⌜ r ≡ onwardOf activity self .next ⌝ }
+        ensures { λ r. ⌜ r ≡ onwardOf sense activity self .next ⌝ }
     {
         match activity {
             Activity::Initialising(t) => self.homewards(t.later()),
             Activity::Moving(t) => self.forwards(t.later()),
             Activity::Delaying(k) => self.waited(k),
+            Activity::Ejecting => self.ejected(sense),
             Activity::Between => Effect::Ends(self),
         }
     }

@@ -79,7 +79,7 @@ module _ (ours : ℕ) (d : Deed) (f : List ℕ) (got : Got) (g : List ℕ) (n : 
   pub part-fits : length f ≡ 320 → Gotten ours d f got g → n ≡ sizeOf got → n ≤ length g
   part-fits l e size = let w = squeezed-length ours d f in rw (size, e .got, e .left, w) (got-size ours d f)
 
-pub tellable : (c : Core) → Valid c → Tellable (c .body) (c .course .error)
+pub tellable : (c : Core) → Valid c → Tellable (c .body) (c .course)
 tellable c v = record { body = v .body; error = v .course .error }
 
 -- the first bytes of a list
@@ -94,10 +94,10 @@ module _ (k : Controller) (b : ℕ) where
   pub heard :
       (buf buf′ : List ℕ) (h : Heard) (frame squeezed text : List ℕ) (got : Got) (task : Task) (n : ℕ) (o : Outcome) (r : Done) (ready : Bool) (s : Said) (ours : ℕ) →
       32 ≤ length buf → ours ≡ letterOf (k .address) → h ≡ hearOf (k .line) b → frame ≡ keepOf (k .frame) (h .deed) b → Gotten ours (h .deed) frame got squeezed →
-      task ≡ taskOf got → n ≡ sizeOf got → acted text (r .core) (r .verdict) ≡ performedOf task (take n squeezed) (k .device) .next →
-      o ≡ outcomeOf got (k .address) (r .verdict) (k .device .core) → ready ≡ readyOf (r .core) → Spoken o ready buf s buf′ →
-      after (reply (record { address = k .address; line = h .line; frame = squeezed; device = device text (r .core) }) s) buf′ ≡ byteOf k b buf .next
+      task ≡ taskOf got → n ≡ sizeOf got → ((tip : Bool) → acted text tip (r .core) (r .verdict) ≡ performedOf task (take n squeezed) (device (k .device .text) tip (k .device .core)) .next) →
+      o ≡ outcomeOf got (k .address) (r .verdict) (k .device .tip) (k .device .core) → ready ≡ readyOf (r .core) → Spoken o ready buf s buf′ →
+      after (reply (record { address = k .address; line = h .line; frame = squeezed; device = device text (k .device .tip) (r .core) }) s) buf′ ≡ byteOf k b buf .next
   unfolding byteOf heardOf dealtOf
   heard buf buf′ h frame squeezed text got task n o r ready s ours l e0 e1 e2 e3 e4 e5 e6 e7 e8 e9 =
-      let told : Spoken (outcomeOf got (k .address) (r .verdict) (k .device .core)) (readyOf (r .core)) buf s buf′ = rw (e7, e8) at e9 in
-      simp (le-ltb (length buf) 32 l, ← e0, ← e1, ← e2, ← e3 .got, ← e3 .left, ← e4, ← e5, ← e6, told .said, told .left)
+      let told : Spoken (outcomeOf got (k .address) (r .verdict) (k .device .tip) (k .device .core)) (readyOf (r .core)) buf s buf′ = rw (e7, e8) at e9 in
+      simp (le-ltb (length buf) 32 l, ← e0, ← e1, ← e2, ← e3 .got, ← e3 .left, ← e4, ← e5, ← e6 (k .device .tip), told .said, told .left)

@@ -3,6 +3,7 @@ use mathlib.Core.Path.{_≡_}
 use Prim.Native.Nat.{ℕ}
 use lib.ListN.{replicate}
 use Rattle.line.specs.declared.Line.the-variants.{Outside}
+use Rattle.motion.specs.declared.Sense.{Sense}
 use Rattle.machine.specs.declared.Device.{Device}
 use Rattle.machine.specs.declared.Turned.{Turned}
 use Rattle.machine.specs.declared.Ran as Machine
@@ -20,18 +21,18 @@ pub is-stopped : (k r : Controller) (d : Device) → r ≡ on d k → d ≡ halt
 unfolding stoppedOf
 is-stopped k r d p e = rw (← e) p
 
-pub is-on : (k c : Controller) (t : Turned) → c ≡ on (t .device) k → record { controller = c; failed = t .failed } ≡ ticked t k
+pub is-on : (k c : Controller) (t : Turned) → c ≡ on (t .device) k → record { controller = c; news = t .news } ≡ ticked t k
 is-on k c t e = rw e
 
-module _ (k : Controller) (r : Ticked) (t : Turned) (p : r ≡ ticked t k) where
-  pub is-ticked : t ≡ tickOf (k .device) .next → r ≡ tickedOf k .next
+module _ (s : Sense) (k : Controller) (r : Ticked) (t : Turned) (p : r ≡ ticked t k) where
+  pub is-ticked : t ≡ tickOf s (k .device) .next → r ≡ tickedOf s k .next
   unfolding tickedOf
   is-ticked e = rw (← e) p
 
-  pub is-advanced : (n : ℕ) → t ≡ advanceOf n (k .device) → r ≡ advancedOf n k
+  pub is-advanced : (n : ℕ) → t ≡ advanceOf n s (k .device) → r ≡ advancedOf n s k
   unfolding advancedOf
   is-advanced n e = rw (← e) p
 
-  pub is-run : (n : ℕ) (m : Machine.Ran) → t ≡ m .turned → m ≡ ranOf n (k .device) → record { ticked = r; used = m .used } ≡ runOf n k
+  pub is-run : (n : ℕ) (m : Machine.Ran) → t ≡ m .turned → m ≡ ranOf n s (k .device) → record { ticked = r; used = m .used } ≡ runOf n s k
   unfolding runOf
   is-run n m q e = rw (p, q, e)

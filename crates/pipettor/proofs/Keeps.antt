@@ -8,6 +8,7 @@ use lib.ListN.{length, take}
 use Rattle.basics.proofs.Choice.{by}
 use Rattle.line.specs.Wire.{hearOf, keepOf}
 use Rattle.line.proofs.Receiving.{feed-long}
+use Rattle.motion.specs.declared.Sense.{Sense}
 use Rattle.motion.specs.Events.{Turn}
 use Rattle.motion.proofs.Keeps.{fresh-ok}
 use Rattle.machine.specs.declared.Device.{Device}
@@ -45,24 +46,24 @@ unfolding madeOf freshOf
 made-is-valid a = record { core = record { body = fresh-ok; course = record { len = omega arith; state = tt; error = omega arith } } }
 
 module _ (k : Controller) (v : Valid k) where
-  pub tick-keeps : Valid (tickedOf k .next .controller)
+  pub tick-keeps : (s : Sense) → Valid (tickedOf s k .next .controller)
   unfolding tickedOf tickOf
-  tick-keeps = record { core = step-keeps (k .device .core) (v .core) (around (k .device .text)) }
+  tick-keeps s = record { core = step-keeps (k .device .core) (v .core) (around (k .device .text) s) }
 
   pub stop-keeps-valid : Valid (stoppedOf k .next)
   unfolding stoppedOf haltedOf
   stop-keeps-valid = record { core = stop-keeps (k .device .core) (v .core) }
 
-  pub advance-keeps : (n : ℕ) → Valid (advancedOf n k .controller)
+  pub advance-keeps : (n : ℕ) (s : Sense) → Valid (advancedOf n s k .controller)
   unfolding advancedOf advanceOf
-  advance-keeps n = record { core = ticks-keep n (around (k .device .text)) (fine (k .device .core)) (v .core) }
+  advance-keeps n s = record { core = ticks-keep n (around (k .device .text) s) (fine (k .device .core)) (v .core) }
 
-  pub run-keeps : (n : ℕ) → Valid (runOf n k .ticked .controller)
+  pub run-keeps : (n : ℕ) (s : Sense) → Valid (runOf n s k .ticked .controller)
   unfolding runOf ranOf advancedOf
-  run-keeps n =
+  run-keeps n s =
       by (λ (r : Machine.Ran). Valid (ticked (r .turned) k .controller)) (ltb 60000 n)
       (λ h. record { core = v .core })
-      (λ h. advance-keeps (usedOf n (around (k .device .text)) (fine (k .device .core))))
+      (λ h. advance-keeps (usedOf n (around (k .device .text) s) (fine (k .device .core))) s)
 
 -- a byte
 performed-keeps : (t : Task) (added : List ℕ) (d : Device) → Ready (d .core) (d .text) → (let e = performedOf t added d .next .device in Ready (e .core) (e .text))

@@ -3,6 +3,7 @@ use mathlib.Core.Path.{_≡_}
 use mathlib.Core.List.{List}
 use Prim.Native.Nat.{ℕ, _<_}
 use lib.ListN.{length}
+use Rattle.motion.specs.declared.Sense.{Sense}
 use Rattle.machine.specs.Device.{device}
 use Rattle.machine.specs.Valid as Machine
 use Rattle.pipettor.specs.declared.address.Address.{Address}
@@ -23,14 +24,14 @@ pub made-returns : (a : Address) (r : Controller) → r ≡ madeOf a .next → R
 made-returns a r e = record { is = e; again = rw e (made-is-valid a) }
 
 module _ (k : Controller) where
-  pub tick-returns : (r : Ticked) → Valid k → r ≡ tickedOf k .next → Returns r (tickedOf k .next) (r .controller)
-  tick-returns r v e = record { is = e; again = rw e (tick-keeps k v) }
+  pub tick-returns : (s : Sense) (r : Ticked) → Valid k → r ≡ tickedOf s k .next → Returns r (tickedOf s k .next) (r .controller)
+  tick-returns s r v e = record { is = e; again = rw e (tick-keeps k v s) }
 
-  pub advance-returns : (n : ℕ) (r : Ticked) → Valid k → r ≡ advancedOf n k → Returns r (advancedOf n k) (r .controller)
-  advance-returns n r v e = record { is = e; again = rw e (advance-keeps k v n) }
+  pub advance-returns : (n : ℕ) (s : Sense) (r : Ticked) → Valid k → r ≡ advancedOf n s k → Returns r (advancedOf n s k) (r .controller)
+  advance-returns n s r v e = record { is = e; again = rw e (advance-keeps k v n s) }
 
-  pub run-returns : (n : ℕ) (r : Ran) → Valid k → r ≡ runOf n k → Returns r (runOf n k) (r .ticked .controller)
-  run-returns n r v e = record { is = e; again = rw e (run-keeps k v n) }
+  pub run-returns : (n : ℕ) (s : Sense) (r : Ran) → Valid k → r ≡ runOf n s k → Returns r (runOf n s k) (r .ticked .controller)
+  run-returns n s r v e = record { is = e; again = rw e (run-keeps k v n s) }
 
   pub stop-keeps : (r : Controller) → r ≡ stoppedOf k .next → Keeps r (stoppedOf k .next) k r
   stop-keeps r e = record { is = e; again = λ v. rw e (stop-keeps-valid k v) }

@@ -28,7 +28,6 @@ use Rattle.machine.specs.Act.{coreError}
 use Rattle.machine.specs.Acts.{Acts}
 use Rattle.machine.specs.Valid.{Valid}
 use Rattle.machine.proofs.KeepsActs.{error-ok}
-use Rattle.machine.specs.Device.{device}
 use Rattle.pipettor.specs.declared.address.Address.{Address}
 use Rattle.reports.specs.declared.Told.{Told}
 use Rattle.reports.specs.declared.Told.the-variants.{No}
@@ -53,15 +52,15 @@ module _ (d j : Data) (p : d ≡ j) where
   pub task-data : (r : Task) → r ≡ taskOf (G.Data j) → r ≡ taskOf (G.Data d)
   task-data r e = rw p e
 
-  pub outcome-data : (a : Address) (v : Verdict) (c : Core) (r : Outcome) → r ≡ outcomeOf (G.Data j) a v c → r ≡ outcomeOf (G.Data d) a v c
-  outcome-data a v c r e = rw p e
+  pub outcome-data : (a : Address) (v : Verdict) (tip : Bool) (c : Core) (r : Outcome) → r ≡ outcomeOf (G.Data j) a v tip c → r ≡ outcomeOf (G.Data d) a v tip c
+  outcome-data a v tip c r e = rw p e
 
 module _ (g j : Got) (p : g ≡ j) where
   pub task-got : (r : Task) → r ≡ taskOf j → r ≡ taskOf g
   task-got r e = rw p e
 
-  pub outcome-got : (a : Address) (v : Verdict) (c : Core) (r : Outcome) → r ≡ outcomeOf j a v c → r ≡ outcomeOf g a v c
-  outcome-got a v c r e = rw p e
+  pub outcome-got : (a : Address) (v : Verdict) (tip : Bool) (c : Core) (r : Outcome) → r ≡ outcomeOf j a v tip c → r ≡ outcomeOf g a v tip c
+  outcome-got a v tip c r e = rw p e
 
 -- what data ask
 pub task-control : (d : Data) (c : Control) (a : Action) → d ≡ D.Control c → a ≡ actionOf c → T.Act a ≡ taskOf (G.Data d)
@@ -74,38 +73,38 @@ task-text d n run a p q = rw (p, q)
 
 -- what is done
 module _ (t : Task) (added text : List ℕ) (c : Core) where
-  pub leaves : Valid c → t ≡ T.Leave → Performs t added (device text c) text (record { core = c; verdict = Fine })
+  pub leaves : Valid c → t ≡ T.Leave → Performs t added text c text (record { core = c; verdict = Fine })
   unfolding performedOf
-  leaves v p = record { is = rw p; again = v }
+  leaves v p = record { is = λ tip. rw p; again = v }
 
-  pub notes : (why : Refusal) (code column : ℕ) (r : Core) → Valid c → t ≡ T.Refuse why → code ≡ refusalNumber why → column ≡ refusalColumn why → r ≡ coreError code column c → Performs t added (device text c) text (record { core = r; verdict = Refused why })
+  pub notes : (why : Refusal) (code column : ℕ) (r : Core) → Valid c → t ≡ T.Refuse why → code ≡ refusalNumber why → column ≡ refusalColumn why → r ≡ coreError code column c → Performs t added text c text (record { core = r; verdict = Refused why })
   unfolding performedOf
-  notes why code column r v p q l e = record { is = rw (p, e, q, l); again = rw e (error-ok code column c (rw q (every-number-is-1-to-15 why .1)) v) }
+  notes why code column r v p q l e = record { is = λ tip. rw (p, e, q, l); again = rw e (error-ok code column c (rw q (every-number-is-1-to-15 why .1)) v) }
 
-  pub performs : (a : Action) (after : List ℕ) (r : Done) → t ≡ T.Act a → Acts a added (device text c) after r → Performs t added (device text c) after r
+  pub performs : (a : Action) (after : List ℕ) (r : Done) → t ≡ T.Act a → Acts a added text c after r → Performs t added text c after r
   unfolding performedOf
-  performs a after r p e = record { is = rw p (e .is); again = e .again }
+  performs a after r p e = record { is = λ tip. rw p (e .is tip); again = e .again }
 
 -- what is answered: a refused report with its number, other data with theirs
 pub tells-no : (t : Told) (code error : ℕ) → t ≡ No → code ≡ refusalNumber R.Report → Tell Nothing code ≡ toldCode t error
 tells-no t code error p q = rw (p, q)
 
 pub outcome-number :
-    (d j : Data) (a : Address) (v : Verdict) (c : Core) (code : ℕ) → d ≡ j → code ≡ verdictNumber v → Tell Nothing (verdictNumber v) ≡ outcomeOf (G.Data j) a v c →
-    Tell Nothing code ≡ outcomeOf (G.Data d) a v c
-outcome-number d j a v c code p q e = rw (p, q) e
+    (d j : Data) (a : Address) (v : Verdict) (tip : Bool) (c : Core) (code : ℕ) → d ≡ j → code ≡ verdictNumber v → Tell Nothing (verdictNumber v) ≡ outcomeOf (G.Data j) a v tip c →
+    Tell Nothing code ≡ outcomeOf (G.Data d) a v tip c
+outcome-number d j a v tip c code p q e = rw (p, q) e
 
-pub outcome-wrong-report : (d : Data) (a : Address) (v : Verdict) (c : Core) (code : ℕ) → d ≡ D.WrongReport → code ≡ refusalNumber R.Report → Tell Nothing code ≡ outcomeOf (G.Data d) a v c
+pub outcome-wrong-report : (d : Data) (a : Address) (v : Verdict) (tip : Bool) (c : Core) (code : ℕ) → d ≡ D.WrongReport → code ≡ refusalNumber R.Report → Tell Nothing code ≡ outcomeOf (G.Data d) a v tip c
 unfolding outcomeOf
-outcome-wrong-report d a v c code p q = rw (p, q)
+outcome-wrong-report d a v tip c code p q = rw (p, q)
 
 -- a report's answer
 pub outcome-report :
-    (d : Data) (q : Question) (a : Address) (ours : ℕ) (v : Verdict) (c : Core) (t : Told) (r : Outcome) →
-    d ≡ D.Report q → ours ≡ letterOf a → t ≡ tellOf q ours (c .body) (c .course .state) (c .course .error) (c .course .misread) →
-    r ≡ toldCode t (c .course .error) → r ≡ outcomeOf (G.Data d) a v c
+    (d : Data) (q : Question) (a : Address) (ours : ℕ) (v : Verdict) (tip : Bool) (c : Core) (t : Told) (r : Outcome) →
+    d ≡ D.Report q → ours ≡ letterOf a → t ≡ tellOf q ours tip (c .body) (c .course) →
+    r ≡ toldCode t (c .course .error) → r ≡ outcomeOf (G.Data d) a v tip c
 unfolding outcomeOf
-outcome-report d q a ours v c t r p l k e = rw (p, ← l, ← k) e
+outcome-report d q a ours v tip c t r p l k e = rw (p, ← l, ← k) e
 
 -- what is said
 pub spoken-case : (o j : Outcome) (ready : Bool) (before : List ℕ) (r : Said) (after : List ℕ) → o ≡ j → Spoken j ready before r after → Spoken o ready before r after

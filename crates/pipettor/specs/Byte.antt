@@ -108,8 +108,8 @@ sizeOf (G.Data D.TooLong) = 0
 
 -- what a task does to a device, with the characters that come with it
 unfoldable pub performedOf : Task → List ℕ → Device → Turn Acted
-performedOf T.Leave added d = quiet (acted (d .text) (d .core) Fine)
-performedOf (T.Refuse why) added d = quiet (acted (d .text) (coreError (refusalNumber why) (refusalColumn why) (d .core)) (Refused why))
+performedOf T.Leave added d = quiet (acted (d .text) (d .tip) (d .core) Fine)
+performedOf (T.Refuse why) added d = quiet (acted (d .text) (d .tip) (coreError (refusalNumber why) (refusalColumn why) (d .core)) (Refused why))
 performedOf (T.Act action) added d = actOf action added d
 
 -- what is answered: "an accepted report's [status] carries the last error, an accepted other frame's 0, a refused frame's its own code"
@@ -117,17 +117,17 @@ abbrev pub toldCode : Told → ℕ → Outcome
 toldCode (Says report) error = Tell report error
 toldCode No error = Tell Nothing (refusalNumber R.Report)
 
-abbrev pub toldOf : Question → Address → Core → Told
-toldOf q address c = tellOf q (letterOf address) (c .body) (c .course .state) (c .course .error) (c .course .misread)
+abbrev pub toldOf : Question → Address → Bool → Core → Told
+toldOf q address tip c = tellOf q (letterOf address) tip (c .body) (c .course)
 
-unfoldable pub outcomeOf : Got → Address → Verdict → Core → Outcome
-outcomeOf G.Nothing address v c = Mute
-outcomeOf (G.Data (D.Report q)) address v c = toldCode (toldOf q address c) (c .course .error)
-outcomeOf (G.Data D.WrongReport) address v c = Tell Nothing (refusalNumber R.Report)
-outcomeOf (G.Data (D.Control k)) address v c = Tell Nothing (verdictNumber v)
-outcomeOf (G.Data (D.Text n run)) address v c = Tell Nothing (verdictNumber v)
-outcomeOf (G.Data (D.Wrong m)) address v c = Tell Nothing (verdictNumber v)
-outcomeOf (G.Data D.TooLong) address v c = Tell Nothing (verdictNumber v)
+unfoldable pub outcomeOf : Got → Address → Verdict → Bool → Core → Outcome
+outcomeOf G.Nothing address v tip c = Mute
+outcomeOf (G.Data (D.Report q)) address v tip c = toldCode (toldOf q address tip c) (c .course .error)
+outcomeOf (G.Data D.WrongReport) address v tip c = Tell Nothing (refusalNumber R.Report)
+outcomeOf (G.Data (D.Control k)) address v tip c = Tell Nothing (verdictNumber v)
+outcomeOf (G.Data (D.Text n run)) address v tip c = Tell Nothing (verdictNumber v)
+outcomeOf (G.Data (D.Wrong m)) address v tip c = Tell Nothing (verdictNumber v)
+outcomeOf (G.Data D.TooLong) address v tip c = Tell Nothing (verdictNumber v)
 
 unfoldable pub saidOf : Outcome → Bool → Said
 saidOf Mute ready = Silent
@@ -167,7 +167,7 @@ pub record Exchange : Type 0 where
 unfoldable pub dealtOf : Got → List ℕ → Address → Device → List ℕ → Turn Exchange
 dealtOf got added a d buf =
     let turn = performedOf (taskOf got) added d in
-    let outcome = outcomeOf got a (turn .next .verdict) (d .core) in
+    let outcome = outcomeOf got a (turn .next .verdict) (d .tip) (d .core) in
     let ready = readyOf (turn .next .device .core) in
     record { next = record { device = turn .next .device; said = saidOf outcome ready; buffer = writtenOf outcome ready buf }; events = turn .events }
 

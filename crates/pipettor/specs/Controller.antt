@@ -3,6 +3,7 @@ use Prim.Native.Nat.{ℕ}
 use mathlib.Core.Bool.{Bool}
 use lib.ListN.{replicate}
 use Rattle.line.specs.declared.Line.the-variants.{Outside}
+use Rattle.motion.specs.declared.Sense.{Sense}
 use Rattle.motion.specs.Events.{Turn}
 use Rattle.machine.specs.declared.Device.{Device}
 use Rattle.machine.specs.declared.Turned.{Turned}
@@ -19,21 +20,21 @@ on d k = record { address = k .address; line = k .line; frame = k .frame; device
 unfoldable pub madeOf : Address → Turn Controller
 madeOf a = record { next = record { address = a; line = Outside; frame = replicate 320 0; device = freshOf .next }; events = freshOf .events }
 
--- a controller after ticks, and why its run fails if it does
+-- a controller after ticks, and what they tell
 abbrev pub ticked : Turned → Controller → Ticked
-ticked t k = record { controller = on (t .device) k; failed = t .failed }
+ticked t k = record { controller = on (t .device) k; news = t .news }
 
-unfoldable pub tickedOf : Controller → Turn Ticked
-tickedOf k = let t = tickOf (k .device) in record { next = ticked (t .next) k; events = t .events }
+unfoldable pub tickedOf : Sense → Controller → Turn Ticked
+tickedOf s k = let t = tickOf s (k .device) in record { next = ticked (t .next) k; events = t .events }
 
 unfoldable pub stoppedOf : Controller → Turn Controller
 stoppedOf k = let t = haltedOf (k .device) in record { next = on (t .next) k; events = t .events }
 
-unfoldable pub advancedOf : ℕ → Controller → Ticked
-advancedOf n k = ticked (advanceOf n (k .device)) k
+unfoldable pub advancedOf : ℕ → Sense → Controller → Ticked
+advancedOf n s k = ticked (advanceOf n s (k .device)) k
 
-unfoldable pub runOf : ℕ → Controller → Ran
-runOf n k = let r = ranOf n (k .device) in record { ticked = ticked (r .turned) k; used = r .used }
+unfoldable pub runOf : ℕ → Sense → Controller → Ran
+runOf n s k = let r = ranOf n s (k .device) in record { ticked = ticked (r .turned) k; used = r .used }
 
 -- "It is ready in all but Running."
 abbrev pub readyIs : Controller → Bool

@@ -6,4 +6,4 @@ use Rattle.pipettor.specs.declared.Controller.{Controller}
 use Rattle.pipettor.specs.declared.lent.Parts.{Parts}
 
 abbrev pub whole : Parts → List ℕ → List ℕ → Controller
-whole p frame text = record { address = p .address; line = p .line; frame = frame; device = device text (p .core) }
+whole p frame text = record { address = p .address; line = p .line; frame = frame; device = device text (p .tip) (p .core) }

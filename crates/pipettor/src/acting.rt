@@ -14,7 +14,6 @@ use text::Data;
 ghost use mathlib.Core.Path.{_≡_};
 ghost use lib.ListN.{length};
 ghost use Rattle.machine.specs.Valid.{Valid};
-ghost use Rattle.machine.specs.Device.{device};
 ghost use Rattle.reports.specs.Reports.{Tellable};
 ghost use Rattle.pipettor.specs.Returns.{Performs};
 ghost use Rattle.pipettor.specs.Byte.{actionOf, stringAction, taskOf, sizeOf, toldCode, outcomeOf, Fetched, Gotten, Spoken};
@@ -139,7 +138,7 @@ impl Task {
     // Done to a core and its text's array, with the characters that come with it.
     pub fn perform(self, c: Core, added: &[u8], text: &mut [u8; 256]) -> Done
         requires { ⌜ Valid c ⌝ }
-        ensures { λ r. ⌜ Performs self (now (added .entry)) (device (now (text .entry)) c) (now (text .exit)) r ⌝ }
+        ensures { λ r. ⌜ Performs self (now (added .entry)) (now (text .entry)) c (now (text .exit)) r ⌝ }
     {
         match self {
             Task::Leave => Done {
@@ -166,20 +165,17 @@ fn told(told: Told, error: u8) -> Outcome
 }
 
 // What is answered to data that were accepted or refused, the core being what it was before them.
-fn answer_to(data: Data, address: Address, verdict: Verdict, c: Core) -> Outcome
-    requires { ⌜ Tellable (c .body) (c .course .error) ⌝ }
-    ensures { λ r. ⌜ r ≡ outcomeOf (Got.Data «data») address verdict c ⌝ }
+fn answer_to(data: Data, address: Address, verdict: Verdict, tip: bool, c: Core) -> Outcome
+    requires { ⌜ Tellable (c .body) (c .course) ⌝ }
+    ensures { λ r. ⌜ r ≡ outcomeOf (Got.Data «data») address verdict tip c ⌝ }
 {
     match data {
         Data::Report(q) => {
             let body = c.body;
             let course = c.course;
-            let state = course.state;
-            let error = course.error;
-            let column = course.misread;
             told(
-                reports::tell(q, address.letter(), body, state, error, column),
-                error,
+                reports::tell(q, address.letter(), tip, body, course),
+                course.error,
             )
         }
         Data::WrongReport => Outcome::Tell(Report::Nothing, Refusal::Report.number()),
@@ -191,13 +187,13 @@ fn answer_to(data: Data, address: Address, verdict: Verdict, c: Core) -> Outcome
 }
 
 impl Got {
-    pub fn outcome(self, address: Address, verdict: Verdict, c: Core) -> Outcome
-        requires { ⌜ Tellable (c .body) (c .course .error) ⌝ }
-        ensures { λ r. ⌜ r ≡ outcomeOf self address verdict c ⌝ }
+    pub fn outcome(self, address: Address, verdict: Verdict, tip: bool, c: Core) -> Outcome
+        requires { ⌜ Tellable (c .body) (c .course) ⌝ }
+        ensures { λ r. ⌜ r ≡ outcomeOf self address verdict tip c ⌝ }
     {
         match self {
             Got::Nothing => Outcome::Mute,
-            Got::Data(data) => answer_to(data, address, verdict, c),
+            Got::Data(data) => answer_to(data, address, verdict, tip, c),
         }
     }
 }

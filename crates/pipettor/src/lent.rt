@@ -10,7 +10,6 @@ ghost use mathlib.Core.Path.{_≡_};
 ghost use Prim.Native.Nat.{_≤_};
 ghost use lib.ListN.{length, take};
 ghost use Rattle.machine.specs.Valid.{Valid};
-ghost use Rattle.machine.specs.Device.{device};
 ghost use Rattle.pipettor.specs.Byte.{after, reply, byteOf};
 ghost use Rattle.pipettor.specs.Lent.{whole};
 ghost use Rattle.pipettor.specs.Returns.{Returns, Performs};
@@ -19,6 +18,7 @@ ghost use Rattle.pipettor.specs.Returns.{Returns, Performs};
 pub struct Parts {
     pub address: Address,
     pub line: Line,
+    pub tip: bool,
     pub core: Core,
 }
 
@@ -31,7 +31,7 @@ pub struct Spoke {
 fn perform(task: Task, c: Core, frame: &[u8], n: usize, text: &mut [u8; 256]) -> Done
     requires { ⌜ Valid c ⌝ }
     requires { ⌜ n ≤ length (now frame) ⌝ }
-    ensures { λ r. ⌜ Performs task (take n (now (frame .entry))) (device (now (text .entry)) c) (now (text .exit)) r ⌝ }
+    ensures { λ r. ⌜ Performs task (take n (now (frame .entry))) (now (text .entry)) c (now (text .exit)) r ⌝ }
 {
     task.perform(c, &frame[..n], text)
 }
@@ -61,12 +61,13 @@ impl Parts {
         let done = perform(task, core, frame, n, text);
         let after = done.core;
         let verdict = done.verdict;
-        let outcome = got.outcome(address, verdict, core);
+        let outcome = got.outcome(address, verdict, self.tip, core);
         let said = outcome.say(after.ready(), buf);
         Spoke {
             parts: Parts {
                 address,
                 line: next,
+                tip: self.tip,
                 core: after,
             },
             said,

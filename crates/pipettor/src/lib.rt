@@ -4,12 +4,13 @@ pub mod address;
 pub mod lent;
 
 use address::Address;
-use command::refusal::Verdict;
 use lent::Parts;
 use line::Line;
 use machine::Device;
 use machine::Turned;
 use machine::Used;
+use machine::step::News;
+use motion::Sense;
 ghost use mathlib.Core.Path.{_≡_};
 ghost use Rattle.pipettor.specs.Valid.{Valid};
 ghost use Rattle.pipettor.specs.Returns.{Returns, Keeps};
@@ -43,10 +44,10 @@ pub struct Listened {
     pub n: usize,
 }
 
-// A controller after ticks, and why its run fails if it does.
+// A controller after ticks, and what they tell.
 pub struct Ticked {
     pub controller: Controller,
-    pub failed: Verdict,
+    pub news: News,
 }
 
 pub struct Ran {
@@ -107,6 +108,7 @@ impl Controller {
         let parts = Parts {
             address,
             line,
+            tip: device.tip,
             core,
         };
         let spoke = parts.byte(b, &mut frame, &mut text, buf);
@@ -120,7 +122,11 @@ impl Controller {
                 address: same,
                 line: next,
                 frame,
-                device: Device { text, core: done },
+                device: Device {
+                    text,
+                    tip: after.tip,
+                    core: done,
+                },
             },
             said,
         }
@@ -166,38 +172,38 @@ impl Controller {
         ensures { λ r. ⌜ r ≡ ticked turned self ⌝ }
     {
         let device = turned.device;
-        let failed = turned.failed;
+        let news = turned.news;
         Ticked {
             controller: self.on(device),
-            failed,
+            news,
         }
     }
 
-    // A tick of 10 ms.
-    pub fn tick(self) -> Ticked
+    // A tick of 10 ms, with what the host senses.
+    pub fn tick(self, sense: Sense) -> Ticked
         requires { ⌜ Valid self ⌝ }
-        ensures { λ r. ⌜ Returns r (tickedOf self .next) (r .controller) ⌝ }
+        ensures { λ r. ⌜ Returns r (tickedOf sense self .next) (r .controller) ⌝ }
     {
         let device = self.device;
-        self.ticked(device.tick())
+        self.ticked(device.tick(sense))
     }
 
     // Exactly n ticks, ready or not.
-    pub fn advance(self, n: u32) -> Ticked
+    pub fn advance(self, n: u32, sense: Sense) -> Ticked
         requires { ⌜ Valid self ⌝ }
-        ensures { λ r. ⌜ Returns r (advancedOf n self) (r .controller) ⌝ }
+        ensures { λ r. ⌜ Returns r (advancedOf n sense self) (r .controller) ⌝ }
     {
         let device = self.device;
-        self.ticked(device.advance(n))
+        self.ticked(device.advance(n, sense))
     }
 
     // Up to n ticks, until ready.
-    pub fn run(self, n: u32) -> Ran
+    pub fn run(self, n: u32, sense: Sense) -> Ran
         requires { ⌜ Valid self ⌝ }
-        ensures { λ r. ⌜ Returns r (runOf n self) (r .ticked .controller) ⌝ }
+        ensures { λ r. ⌜ Returns r (runOf n sense self) (r .ticked .controller) ⌝ }
     {
         let device = self.device;
-        let ran = device.run(n);
+        let ran = device.run(n, sense);
         let turned = ran.turned;
         let used = ran.used;
         Ran {

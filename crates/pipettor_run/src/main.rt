@@ -1,5 +1,6 @@
 // The controller called as a host calls it: every address, bytes by themselves with marked and with short buffers, ticks between them, noise, stop in every state, runs that are too long and runs that are counted. Prints what came back.
 use machine::Used;
+use motion::Sense;
 use pipettor::Controller;
 use pipettor::Said;
 use pipettor::address::Address;
@@ -133,7 +134,7 @@ fn tick(c: Controller) -> Controller
     requires { ⌜ Valid c ⌝ }
     ensures { λ r. ⌜ Valid r ⌝ }
 {
-    let ticked = c.tick();
+    let ticked = c.tick(Sense { tip: false });
     let after = ticked.controller;
     say(b"  tick");
     place(after);
@@ -269,7 +270,7 @@ fn wait(c: Controller, n: u32) -> Controller
     requires { ⌜ Valid c ⌝ }
     ensures { λ r. ⌜ Valid r ⌝ }
 {
-    let ticked = c.advance(n);
+    let ticked = c.advance(n, Sense { tip: false });
     let after = ticked.controller;
     say(b"  ticks ");
     number(n as u64);
@@ -294,7 +295,7 @@ fn run(c: Controller, n: u32) -> Controller
     requires { ⌜ Valid c ⌝ }
     ensures { λ r. ⌜ Valid r ⌝ }
 {
-    let ran = c.run(n);
+    let ran = c.run(n, Sense { tip: false });
     let u = ran.used;
     used(n, u);
     let ticked = ran.ticked;

@@ -27,7 +27,7 @@ use Rattle.machine.specs.declared.Used.{Used}
 use Rattle.machine.specs.declared.Used.the-variants.{Ticks, S3}
 use Rattle.pipettor.specs.declared.Said.{Said}
 use Rattle.pipettor.specs.declared.Said.the-variants.{Silent, Answer, S1}
-use Rattle.printing.specs.Print.{ended, shownOf, placeOf, usedOf, pairOf, barOf, addedOf, closeOf, Prints}
+use Rattle.printing.specs.Print.{ended, shownOf, lastOf, placeOf, usedOf, pairOf, barOf, addedOf, closeOf, Prints}
 
 -- a text that fits is laid
 module _ (most : ℕ) (text : List ℕ) (few : length text ≤ most) (at : ℕ) (out after : List ℕ) (r : Put) (room : at + most ≤ length out) (l : Laid text at out r after) where
@@ -105,28 +105,36 @@ module _ (n at : ℕ) (out after : List ℕ) (r : Put) where
     pub long-has-room : r ≡ NoRoom → Prints 20 (longOf n) at out at after
     long-has-room q = absurd (never 20 (longOf n) many at out after r room l q)
 
+-- whether a tick asked
+module _ (asked : Bool) (at r : ℕ) (out after : List ℕ) where
+  pub asked-last : asked ≡ true → Prints 7 (ended (32 ∷ 101 ∷ 106 ∷ 101 ∷ 99 ∷ 116 ∷ [])) at out r after → Prints 7 (lastOf asked) at out r after
+  asked-last e p = rw e p
+
+  pub unasked-last : asked ≡ false → Prints 1 (10 ∷ []) at out r after → Prints 7 (lastOf asked) at out r after
+  unasked-last e p = rw e (shorter 1 7 (ended []) at r out after (omega arith) p)
+
 -- the plunger, a space, the exact position
-module _ (p x at a b c d : ℕ) (out one two three four : List ℕ) (room : at + 32 ≤ length out) (w : Prints 10 (digitsOf p) at out a one) (s : Prints 1 (32 ∷ []) a one b two) where
+module _ (p x at a b c d : ℕ) (asked : Bool) (out one two three four : List ℕ) (room : at + 38 ≤ length out) (w : Prints 10 (digitsOf p) at out a one) (s : Prints 1 (32 ∷ []) a one b two) where
   head : Prints 11 (digitsOf p ++ chars " ") at out b two
   head = both 10 1 11 (digitsOf p) (chars " ") at a b out one two (omega arith) (omega arith) w s
 
-  pub placed : Prints 20 (longOf x) b two c three → Prints 1 (10 ∷ []) c three d four → Prints 32 (placeOf p x) at out d four
+  pub placed : Prints 20 (longOf x) b two c three → Prints 7 (lastOf asked) c three d four → Prints 38 (placeOf p x asked) at out d four
   unfolding placeOf
   placed l e =
       let body = both 11 20 31 (digitsOf p ++ chars " ") (longOf x) at b c out two three (omega arith) (omega arith) head l in
-      both 31 1 32 ((digitsOf p ++ chars " ") ++ longOf x) (lf ∷ []) at c d out three four (omega arith) (omega arith) body e
+      both 31 7 38 ((digitsOf p ++ chars " ") ++ longOf x) (lastOf asked) at c d out three four (omega arith) (omega arith) body e
 
 -- what a run used
-module _ (u : Used) (p x at : ℕ) (out : List ℕ) (room : at + 43 ≤ length out) where
-  pub too-long-a-run : (r : ℕ) (after : List ℕ) → u ≡ S3 → Prints 3 (ended (83 ∷ 51 ∷ [])) at out r after → Prints 43 (usedOf u p x) at out r after
+module _ (u : Used) (p x at : ℕ) (asked : Bool) (out : List ℕ) (room : at + 49 ≤ length out) where
+  pub too-long-a-run : (r : ℕ) (after : List ℕ) → u ≡ S3 → Prints 3 (ended (83 ∷ 51 ∷ [])) at out r after → Prints 49 (usedOf u p x asked) at out r after
   unfolding usedOf
-  too-long-a-run r after e q = rw e (shorter 3 43 (ended (chars "S3")) at r out after (omega arith) q)
+  too-long-a-run r after e q = rw e (shorter 3 49 (ended (chars "S3")) at r out after (omega arith) q)
 
-  pub ran : (n a b c : ℕ) (one two three : List ℕ) → u ≡ Ticks n → Prints 10 (digitsOf n) at out a one → Prints 1 (32 ∷ []) a one b two → Prints 32 (placeOf p x) b two c three → Prints 43 (usedOf u p x) at out c three
+  pub ran : (n a b c : ℕ) (one two three : List ℕ) → u ≡ Ticks n → Prints 10 (digitsOf n) at out a one → Prints 1 (32 ∷ []) a one b two → Prints 38 (placeOf p x asked) b two c three → Prints 49 (usedOf u p x asked) at out c three
   unfolding usedOf
   ran n a b c one two three e w s l =
       let front = both 10 1 11 (digitsOf n) (chars " ") at a b out one two (omega arith) (omega arith) w s in
-      rw e (both 11 32 43 (digitsOf n ++ chars " ") (placeOf p x) at b c out two three (omega arith) (omega arith) front l)
+      rw e (both 11 38 49 (digitsOf n ++ chars " ") (placeOf p x asked) at b c out two three (omega arith) (omega arith) front l)
 
 -- status and data
 printed-short : (n : ℕ) (answer : List ℕ) → length (printedOf n answer) ≤ length answer

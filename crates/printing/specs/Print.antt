@@ -27,14 +27,19 @@ shownOf Silent answer = ended (chars "-")
 shownOf (Answer n) answer = ended (printedOf n answer)
 shownOf S1 answer = ended (chars "S1")
 
+-- the end of a line of ticks: "` eject` at the end of what `t` and `run` print where a tick asked"
+abbrev pub lastOf : Bool → List ℕ
+lastOf true = ended (chars " eject")
+lastOf false = ended []
+
 -- "for ticks, the plunger, a space, the exact position"
-unfoldable pub placeOf : ℕ → ℕ → List ℕ
-placeOf plunger exact = ended ((digitsOf plunger ++ chars " ") ++ longOf exact)
+unfoldable pub placeOf : ℕ → ℕ → Bool → List ℕ
+placeOf plunger exact asked = ((digitsOf plunger ++ chars " ") ++ longOf exact) ++ lastOf asked
 
 -- "ticks used, space, plunger, space, exact position; or `S3`"
-unfoldable pub usedOf : Used → ℕ → ℕ → List ℕ
-usedOf (Ticks n) plunger exact = (digitsOf n ++ chars " ") ++ placeOf plunger exact
-usedOf S3 plunger exact = ended (chars "S3")
+unfoldable pub usedOf : Used → ℕ → ℕ → Bool → List ℕ
+usedOf (Ticks n) plunger exact asked = (digitsOf n ++ chars " ") ++ placeOf plunger exact asked
+usedOf S3 plunger exact asked = ended (chars "S3")
 
 -- "two answers separated by a space, a bar (7Ch) and a space"
 abbrev pub barOf : Bool → List ℕ

@@ -8,7 +8,7 @@ ghost use mathlib.Core.List.{_++_};
 ghost use lib.ListN.{length};
 ghost use Rattle.decimal.specs.Digits.{digitsOf, longOf};
 ghost use Rattle.desk.specs.Hex.{hexOf};
-ghost use Rattle.printing.specs.Print.{ended, shownOf, placeOf, usedOf, pairOf, barOf, addedOf, closeOf, Prints};
+ghost use Rattle.printing.specs.Print.{ended, shownOf, lastOf, placeOf, usedOf, pairOf, barOf, addedOf, closeOf, Prints};
 
 // A text.
 fn put(text: &[u8], out: &mut [u8], at: usize) -> usize
@@ -48,27 +48,38 @@ fn long(n: u64, out: &mut [u8], at: usize) -> usize
     at + size
 }
 
+// The end of a line of ticks: whether one asked to eject.
+fn last(asked: bool, out: &mut [u8], at: usize) -> usize
+    requires { ⌜ at + 7 ≤ length (now out) ⌝ }
+    ensures { λ r. ⌜ Prints 7 (lastOf asked) at (now (out .entry)) r (now (out .exit)) ⌝ }
+{
+    if asked {
+        return line(b" eject", out, at);
+    }
+    put(b"\n", out, at)
+}
+
 // "for ticks, the plunger, a space, the exact position"
-pub fn place(plunger: u32, exact: u64, out: &mut [u8], at: usize) -> usize
-    requires { ⌜ at + 32 ≤ length (now out) ⌝ }
-    ensures { λ r. ⌜ Prints 32 (placeOf plunger exact) at (now (out .entry)) r (now (out .exit)) ⌝ }
+pub fn place(plunger: u32, exact: u64, asked: bool, out: &mut [u8], at: usize) -> usize
+    requires { ⌜ at + 38 ≤ length (now out) ⌝ }
+    ensures { λ r. ⌜ Prints 38 (placeOf plunger exact asked) at (now (out .entry)) r (now (out .exit)) ⌝ }
 {
     let one = whole(plunger, out, at);
     let two = put(b" ", out, one);
     let three = long(exact, out, two);
-    put(b"\n", out, three)
+    last(asked, out, three)
 }
 
 // The ticks that a run used, and where it left the plunger; or S3.
-pub fn used(used: Used, plunger: u32, exact: u64, out: &mut [u8], at: usize) -> usize
-    requires { ⌜ at + 43 ≤ length (now out) ⌝ }
-    ensures { λ r. ⌜ Prints 43 (usedOf used plunger exact) at (now (out .entry)) r (now (out .exit)) ⌝ }
+pub fn used(used: Used, plunger: u32, exact: u64, asked: bool, out: &mut [u8], at: usize) -> usize
+    requires { ⌜ at + 49 ≤ length (now out) ⌝ }
+    ensures { λ r. ⌜ Prints 49 (usedOf used plunger exact asked) at (now (out .entry)) r (now (out .exit)) ⌝ }
 {
     match used {
         Used::Ticks(n) => {
             let one = whole(n, out, at);
             let two = put(b" ", out, one);
-            place(plunger, exact, out, two)
+            place(plunger, exact, asked, out, two)
         }
         Used::S3 => line(b"S3", out, at),
     }

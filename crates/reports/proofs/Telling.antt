@@ -1,6 +1,6 @@
 -- Laws of `specs/Reports`, one for each return of the code.
 use mathlib.Core.Path.{_≡_}
-use mathlib.Core.Bool.{true, false}
+use mathlib.Core.Bool.{Bool, true, false}
 use Prim.Native.Nat.{ℕ, _+_, _*_, _^_, _≤_, _<_}
 use native.Mathlib.Nat.{div-le-of-le-mul}
 use native.Mathlib.Omega.{arith}
@@ -15,6 +15,7 @@ use Rattle.motion.specs.Bounds.{BodyOk}
 use Rattle.text.specs.declared.Question.{Question}
 use Rattle.buffer.specs.declared.course.State.{State}
 use Rattle.buffer.specs.declared.course.State.the-variants.{Running}
+use Rattle.buffer.specs.declared.course.Course.{Course}
 use Rattle.reports.specs.declared.Told.{Told}
 use Rattle.reports.specs.declared.Told.the-variants.{No}
 use Rattle.reports.specs.Reports.{goalIn, settingOf, valueOf, queryOf, tellOf}
@@ -29,36 +30,36 @@ goal-while-case k j p r q e = rw q e
 pub setting-case : (n j : ℕ) (s : Settings) (r : Told) → n ≡ j → r ≡ settingOf j s → r ≡ settingOf n s
 setting-case n j s r q e = rw q e
 
-pub value-case : (n j : ℕ) (b : Body) (s : State) (r : Told) → n ≡ j → r ≡ valueOf j b s → r ≡ valueOf n b s
-value-case n j b s r q e = rw q e
+pub value-case : (n j : ℕ) (tip : Bool) (b : Body) (s : State) (r : Told) → n ≡ j → r ≡ valueOf j tip b s → r ≡ valueOf n tip b s
+value-case n j tip b s r q e = rw q e
 
 pub query-case : (n j error column : ℕ) (r : Told) → n ≡ j → r ≡ queryOf j error column → r ≡ queryOf n error column
 query-case n j error column r q e = rw q e
 
-pub tell-case : (q j : Question) (ours : ℕ) (b : Body) (s : State) (error column : ℕ) (r : Told) → q ≡ j → r ≡ tellOf j ours b s error column → r ≡ tellOf q ours b s error column
-tell-case q j ours b s error column r p e = rw p e
+pub tell-case : (q j : Question) (ours : ℕ) (tip : Bool) (b : Body) (c : Course) (r : Told) → q ≡ j → r ≡ tellOf j ours tip b c → r ≡ tellOf q ours tip b c
+tell-case q j ours tip b c r p e = rw p e
 
 pub rate-least : (b : Body) → BodyOk b → 39650 ≤ b .settings .rate
 rate-least b ok = kept-rate-is-near-40000 (b .settings) (ok .settings) .0
 
--- a number of 4 to 20: the code tests for it once 0, 1, 3, 29 and 67 are excluded
-module _ (n : ℕ) (b : Body) (s : State) where
+-- a number of 4 to 20: the code tests for it once 0, 1, 3, 29, 31 and 67 are excluded
+module _ (n : ℕ) (tip : Bool) (b : Body) (s : State) where
   differs : (least : ℕ) → least ≤ n → (j : ℕ) → ltb j least ≡ true → eqb n j ≡ false
   differs least h j l = ne-eqb n j (λ q. omega (arith, ltb-true j least l))
 
-  pub value-setting : (r : Told) → (n ≡ 3 → ⊥) → 3 ≤ n → n < 21 → r ≡ settingOf n (b .settings) → r ≡ valueOf n b s
+  pub value-setting : (r : Told) → (n ≡ 3 → ⊥) → 3 ≤ n → n < 21 → r ≡ settingOf n (b .settings) → r ≡ valueOf n tip b s
   unfolding valueOf
   value-setting r d h k e = let l : 4 ≤ n = omega arith in simp (differs 4 l, le-leb 4 n l, le-leb n 20 (omega arith), e)
 
-  pub value-low : (n ≡ 0 → ⊥) → (n ≡ 1 → ⊥) → n < 3 → No ≡ valueOf n b s
+  pub value-low : (n ≡ 0 → ⊥) → (n ≡ 1 → ⊥) → n < 3 → No ≡ valueOf n tip b s
   unfolding valueOf
   value-low p q h = let two : n ≡ 2 = omega arith in rw two
 
-  pub value-high : (n ≡ 29 → ⊥) → (n ≡ 67 → ⊥) → 21 ≤ n → No ≡ valueOf n b s
+  pub value-high : (n ≡ 29 → ⊥) → (n ≡ 31 → ⊥) → (n ≡ 67 → ⊥) → 21 ≤ n → No ≡ valueOf n tip b s
   unfolding valueOf
-  value-high p q h =
+  value-high p t q h =
       let l : 4 ≤ n = omega arith in
-      simp (differs 4 l, le-leb 4 n l, lt-leb n 20 (omega arith), ne-eqb n 29 p, ne-eqb n 67 q)
+      simp (differs 4 l, le-leb 4 n l, lt-leb n 20 (omega arith), ne-eqb n 29 p, ne-eqb n 31 t, ne-eqb n 67 q)
 
 -- what is told fits 32 bits
 pub flow-fits : (t r : ℕ) → t ≤ 800000 → r ≡ flowOf t → r < 2 ^ 32

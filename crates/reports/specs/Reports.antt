@@ -1,18 +1,19 @@
 -- 01, "Reports".
 use Prim.Native.Nat.{ℕ, _+_, _≤_}
-use mathlib.Core.Bool.{_&&_}
+use mathlib.Core.Bool.{Bool, true, false, _&&_}
 use lib.Dec.{eqb, leb}
 use Rattle.basics.specs.Choice.{if_then_else_}
 use Rattle.settings.specs.declared.Settings.{Settings}
 use Rattle.settings.specs.Units.{flowOf, nanolitresOf}
 use Rattle.line.specs.declared.Report.the-variants.{Nothing, Character, Whole, Tenths, Thousandths}
-use Rattle.motion.specs.declared.Activity.the-variants.{Initialising, Moving, Delaying, Between}
+use Rattle.motion.specs.declared.Activity.the-variants.{Initialising, Moving, Delaying, Ejecting, Between}
 use Rattle.motion.specs.declared.Body.{Body}
 use Rattle.motion.specs.Bounds.{BodyOk}
 use Rattle.text.specs.declared.Question.{Question}
 use Rattle.text.specs.declared.Question.the-variants as Q
 use Rattle.buffer.specs.declared.course.State.{State}
 use Rattle.buffer.specs.declared.course.State.the-variants.{Empty, Stored, Running, Stopped, Done}
+use Rattle.buffer.specs.declared.course.Course.{Course}
 use Rattle.reports.specs.declared.Told.{Told}
 use Rattle.reports.specs.declared.Told.the-variants.{Says, No}
 
@@ -21,6 +22,7 @@ unfoldable pub goalIn : State → ℕ → ℕ
 goalIn (Running (Initialising t)) plunger = t .goal
 goalIn (Running (Moving t)) plunger = t .goal
 goalIn (Running (Delaying k)) plunger = plunger
+goalIn (Running Ejecting) plunger = plunger
 goalIn (Running Between) plunger = plunger
 goalIn Empty plunger = plunger
 goalIn Stored plunger = plunger
@@ -42,6 +44,11 @@ textIn (Running a) = 1
 textIn Stopped = 1
 textIn Done = 0
 
+-- 02, W-203: "?31 reports the tip of the last tick"
+abbrev pub tipIn : Bool → ℕ
+tipIn true = 1
+tipIn false = 0
+
 -- settings: "4 K, 6 v, 7 V, 8 c, 9 and 10 L's two, .. 18 to 20 v, V, c in µL/s"; the lengths of travel: "16 `44000`, 17 `1100`". "Others 3"
 unfoldable pub settingOf : ℕ → Settings → Told
 settingOf n s =
@@ -58,14 +65,15 @@ settingOf n s =
     else if eqb n 20 then Says (Thousandths (flowOf (s .cutoff)))
     else No
 
--- "0 goal .., 1 plunger, 3 plunger in µL .., 29 and 67"; what is set stands at 4 to 20; "Others 3"
-unfoldable pub valueOf : ℕ → Body → State → Told
-valueOf n b s =
+-- "0 goal .., 1 plunger, 3 plunger in µL .., 29 and 67", and the tip; what is set stands at 4 to 20; "Others 3"
+unfoldable pub valueOf : ℕ → Bool → Body → State → Told
+valueOf n tip b s =
     if eqb n 0 then Says (Whole (goalIn s (b .plunger)))
     else if eqb n 1 then Says (Whole (b .plunger))
     else if eqb n 3 then Says (Thousandths (nanolitresOf (b .plunger) (b .settings .rate)))
     else if leb 4 n && leb n 20 then settingOf n (b .settings)
     else if eqb n 29 then Says (Whole (busyIn s))
+    else if eqb n 31 then Says (Whole (tipIn tip))
     else if eqb n 67 then Says (Whole (textIn s))
     else No
 
@@ -78,12 +86,12 @@ queryOf n error column =
     else No
 
 -- "f the address"
-unfoldable pub tellOf : Question → ℕ → Body → State → ℕ → ℕ → Told
-tellOf (Q.Query n) ours b s error column = queryOf n error column
-tellOf (Q.Value n) ours b s error column = valueOf n b s
-tellOf Q.Address ours b s error column = Says (Character ours)
+unfoldable pub tellOf : Question → ℕ → Bool → Body → Course → Told
+tellOf (Q.Query n) ours tip b c = queryOf n (c .error) (c .misread)
+tellOf (Q.Value n) ours tip b c = valueOf n tip b (c .state)
+tellOf Q.Address ours tip b c = Says (Character ours)
 
 -- what holds of every controller that comes from making and earlier calls, as far as reports need it
-pub record Tellable (b : Body) (e : ℕ) : Type 0 where
+pub record Tellable (b : Body) (c : Course) : Type 0 where
   pub body : BodyOk b
-  pub error : e ≤ 15
+  pub error : c .error ≤ 15

@@ -1,4 +1,5 @@
 // Reports: what Q, ? and f say.
+use buffer::course::Course;
 use buffer::course::State;
 use line::Report;
 use motion::Activity;
@@ -11,7 +12,7 @@ ghost use Prim.Native.Nat.{_≤_};
 ghost use Rattle.settings.specs.Units.{flowOf, nanolitresOf};
 ghost use Rattle.settings.specs.Limits.{Kept};
 ghost use Rattle.motion.specs.Bounds.{BodyOk};
-ghost use Rattle.reports.specs.Reports.{Tellable, goalIn, busyIn, textIn, settingOf, valueOf, queryOf, tellOf};
+ghost use Rattle.reports.specs.Reports.{Tellable, goalIn, busyIn, textIn, tipIn, settingOf, valueOf, queryOf, tellOf};
 
 // What a report says, or that there is none of this number.
 pub enum Told {
@@ -26,6 +27,7 @@ fn goal_while(activity: Activity, plunger: u32) -> u32
         Activity::Initialising(t) => t.goal,
         Activity::Moving(t) => t.goal,
         Activity::Delaying(_) => plunger,
+        Activity::Ejecting => plunger,
         Activity::Between => plunger,
     }
 }
@@ -64,6 +66,16 @@ fn text_in(state: State) -> u32
         State::Stopped => 1,
         State::Done => 0,
     }
+}
+
+// The tip as a digit.
+fn tip_in(tip: bool) -> u32
+    ensures { λ r. ⌜ r ≡ tipIn tip ⌝ }
+{
+    if tip {
+        return 1;
+    }
+    0
 }
 
 // A speed in nL a second.
@@ -106,9 +118,9 @@ fn setting(n: u32, s: Settings) -> Told
 }
 
 // ? with a number.
-fn value(n: u32, b: Body, state: State) -> Told
+fn value(n: u32, tip: bool, b: Body, state: State) -> Told
     requires { ⌜ BodyOk b ⌝ }
-    ensures { λ r. ⌜ r ≡ valueOf n b state ⌝ }
+    ensures { λ r. ⌜ r ≡ valueOf n tip b state ⌝ }
 {
     let settings = b.settings;
     let plunger = b.plunger;
@@ -118,6 +130,7 @@ fn value(n: u32, b: Body, state: State) -> Told
         3 => volume(plunger, settings.rate),
         4..=20 => setting(n, settings),
         29 => Told::Says(Report::Whole(busy_in(state))),
+        31 => Told::Says(Report::Whole(tip_in(tip))),
         67 => Told::Says(Report::Whole(text_in(state))),
         _ => Told::No,
     }
@@ -136,14 +149,15 @@ fn query(n: u32, error: u8, column: u32) -> Told
     }
 }
 
-// What a report says: of our address's character, the plunger and the settings, the buffer's state, the last error and its column.
-pub fn tell(q: Question, ours: u8, body: Body, state: State, error: u8, column: u32) -> Told
-    requires { ⌜ Tellable body error ⌝ }
-    ensures { λ r. ⌜ r ≡ tellOf q ours body state error column ⌝ }
+// What a report says: of our address's character, the tip, the plunger and the settings, and the buffer.
+pub fn tell(q: Question, ours: u8, tip: bool, body: Body, course: Course) -> Told
+    requires { ⌜ Tellable body course ⌝ }
+    ensures { λ r. ⌜ r ≡ tellOf q ours tip body course ⌝ }
 {
+    let state = course.state;
     match q {
-        Question::Query(n) => query(n, error, column),
-        Question::Value(n) => value(n, body, state),
+        Question::Query(n) => query(n, course.error, course.misread),
+        Question::Value(n) => value(n, tip, body, state),
         Question::Address => Told::Says(Report::Character(ours)),
     }
 }

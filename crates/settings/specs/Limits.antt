@@ -29,7 +29,7 @@ rangeOf Nanolitres = 0 to 1100000  -- A P D, 1100.000 µL
 rangeOf Slope = 1 to 80  -- L, both numbers
 rangeOf Backlash = 0 to 500  -- K
 rangeOf Compensation = 0 to 350  -- b
-rangeOf Choice = 0 to 1  -- the second number of A P D V v c b
+rangeOf Choice = 0 to 1  -- the second number of A P D V v c b; E
 rangeOf Delay = 1 to 30000  -- M, milliseconds
 rangeOf Passes = 0 to 50000  -- G
 

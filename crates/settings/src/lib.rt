@@ -125,7 +125,7 @@ impl Settings {
     pub const COMPENSATION_USUAL: u32 = 0;
 
     pub const RATE_USUAL: u32 = 40_000;
-    // The second number of A, P, D, V, v, c and b.
+    // The second number of A, P, D, V, v, c and b; E.
     pub const CHOICE_LEAST: u32 = 0;
 
     pub const CHOICE_MOST: u32 = 1;

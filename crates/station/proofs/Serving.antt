@@ -11,13 +11,14 @@ use Rattle.basics.proofs.Lists.{tail-all}
 use Rattle.line.specs.Wire.{slash, cr}
 use Rattle.desk.specs.declared.Desk.{Desk}
 use Rattle.desk.specs.declared.Quantity.{Quantity}
-use Rattle.desk.specs.declared.Quantity.the-variants.{Ticks, Run, Lend, New}
+use Rattle.desk.specs.declared.Quantity.the-variants.{Ticks, Run, Lend, New, Tip}
 use Rattle.desk.specs.declared.Asked.{Asked}
 use Rattle.desk.specs.declared.Asked.the-variants.{Send, Number, Stop, Raw, Wrong}
 use Rattle.desk.specs.Desk.{mostOf, askedOf}
 use Rattle.desk.specs.Hex.{bytesIn, hexOf}
 use Rattle.desk.specs.Forms.{Raws}
 use Rattle.desk.proofs.Forms.{a-frame-is-asked-for, a-number-is-asked-for, raw-bytes-are-asked-for}
+use Rattle.machine.specs.declared.Used.{Used}
 use Rattle.pipettor.specs.declared.address.Address.{Address}
 use Rattle.pipettor.specs.declared.address.Address.the-variants.{One}
 use Rattle.pipettor.specs.declared.address.Given.{Given}
@@ -40,15 +41,15 @@ use Rattle.station.specs.declared.Station.{Station}
 use Rattle.station.specs.declared.Told.{Told}
 use Rattle.station.specs.declared.Replied.{Replied}
 use Rattle.printing.specs.Print.{ended, shownOf, placeOf, usedOf, addedOf, Prints}
-use Rattle.station.specs.Serve.{station, atStart, on, blank, Served, served, toldOf, heardOf, after, shownBy, endedOf, goneOn, sentBy, sentOf, placedOf, waitedOf, ranOf, haltedOf, lentOf, madeBy, numberedOf, addedBy, saidTo, rawOf, didOf, servedOf, Manned, Starts, Tells, Replies}
+use Rattle.station.specs.Serve.{station, sensing, atStart, on, blank, Served, served, toldOf, heardOf, after, shownBy, endedOf, goneOn, sentBy, sentOf, placedOf, showsAsk, waitedOf, usedUp, ranOf, haltedOf, lentOf, tippedOf, madeBy, numberedOf, addedBy, saidTo, rawOf, didOf, servedOf, Manned, Starts, Tells, Replies}
 use Rattle.printing.proofs.Output.{shorter}
 
 -- a station with another controller
 moved : (s k : Station) (c : Controller) → k ≡ on c s → Manned s → Valid c → Manned k
 moved s k c e m v = rw e (record { valid = v; lend = m .lend })
 
-pub starts : (desk : Desk) (c : Controller) → Returns c (madeOf One .next) c → Starts desk (record { desk = desk; lend = 32; controller = c })
-starts desk c r = record { is = ap (station desk 32) (r .is); manned = record { valid = r .again; lend = omega arith } }
+pub starts : (desk : Desk) (c : Controller) → Returns c (madeOf One .next) c → Starts desk (record { desk = desk; lend = 32; sense = sensing false; controller = c })
+starts desk c r = record { is = ap (station desk 32 (sensing false)) (r .is); manned = record { valid = r .again; lend = omega arith } }
 
 -- a byte
 pub tells :
@@ -127,35 +128,29 @@ module _ (s k : Station) (m : Manned s) (said : Said) (text buf : List ℕ) (t :
 
 -- ticks, a run, the stop
 module _ (s k : Station) (m : Manned s) (at end : ℕ) (out left : List ℕ) where
-  pub places : (c : Controller) → Valid c → k ≡ on c s → Prints 32 (placeOf (c .device .core .body .plunger) (c .device .core .body .exact)) at out end left → Replies 32 (placedOf c s) at out (record { station = k; end = end }) left
+  pub places : (c : Controller) (asked : Bool) → Valid c → k ≡ on c s → Prints 38 (placeOf (c .device .core .body .plunger) (c .device .core .body .exact) asked) at out end left → Replies 38 (placedOf c asked s) at out (record { station = k; end = end }) left
   unfolding placedOf
-  places c v e p = record { is = e; again = moved s k c e m v; prints = p }
+  places c asked v e p = record { is = e; again = moved s k c e m v; prints = p }
 
-  pub runs :
-      (n : ℕ) (r : Ran) → Returns r (runOf n (s .controller)) (r .ticked .controller) → k ≡ on (r .ticked .controller) s →
-      Prints 43 (usedOf (r .used) (r .ticked .controller .device .core .body .plunger) (r .ticked .controller .device .core .body .exact)) at out end left → Replies 43 (ranOf n s) at out (record { station = k; end = end }) left
-  unfolding ranOf
-  runs n r t e p = record {
-    is = e ∙ ap (λ (x : Ran). on (x .ticked .controller) s) (t .is);
-    again = moved s k (r .ticked .controller) e m (t .again);
-    prints = rw (t .is) at p;
-  }
+  pub uses : (u : Used) (c : Controller) (asked : Bool) → Valid c → k ≡ on c s → Prints 49 (usedOf u (c .device .core .body .plunger) (c .device .core .body .exact) asked) at out end left → Replies 49 (usedUp u c asked s) at out (record { station = k; end = end }) left
+  unfolding usedUp
+  uses u c asked v e p = record { is = e; again = moved s k c e m v; prints = p }
 
 pub stopped-valid : (s : Station) (c : Controller) → Manned s → Keeps c (stoppedOf (s .controller) .next) (s .controller) c → Valid c
 stopped-valid s c m h = h .again (m .valid)
 
 module _ (s : Station) (at : ℕ) (out : List ℕ) (r : Replied) (left : List ℕ) where
-  pub waits : (n : ℕ) (t : Ticked) → Returns t (advancedOf n (s .controller)) (t .controller) → Replies 32 (placedOf (t .controller) s) at out r left → Replies 32 (waitedOf n s) at out r left
-  waits n t h q = rw (h .is) at q
+  pub waits : (n : ℕ) (asked : Bool) (t : Ticked) → Returns t (advancedOf n (s .sense) (s .controller)) (t .controller) → asked ≡ showsAsk (s .desk) (t .news .eject) → Replies 38 (placedOf (t .controller) asked s) at out r left → Replies 38 (waitedOf n s) at out r left
+  waits n asked t h e q = rw (e, h .is) at q
 
-  pub halts : (c : Controller) → Keeps c (stoppedOf (s .controller) .next) (s .controller) c → Replies 32 (placedOf c s) at out r left → Replies 32 (haltedOf s) at out r left
+  pub runs : (n : ℕ) (asked : Bool) (t : Ran) → Returns t (runOf n (s .sense) (s .controller)) (t .ticked .controller) → asked ≡ showsAsk (s .desk) (t .ticked .news .eject) → Replies 49 (usedUp (t .used) (t .ticked .controller) asked s) at out r left → Replies 49 (ranOf n s) at out r left
+  runs n asked t h e q = rw (e, h .is) at q
+
+  pub halts : (c : Controller) → Keeps c (stoppedOf (s .controller) .next) (s .controller) c → Replies 38 (placedOf c false s) at out r left → Replies 38 (haltedOf s) at out r left
   halts c h q = rw (h .is) at q
 
 -- buffers and addresses
 module _ (s : Station) (m : Manned s) (at end : ℕ) (out left : List ℕ) where
-  pub lends : (n : ℕ) → n ≤ 64 → Prints 3 (ended (111 ∷ 107 ∷ [])) at out end left → Replies 3 (lentOf n s) at out (record { station = station (s .desk) n (s .controller); end = end }) left
-  lends n h p = record { is = refl; again = record { valid = m .valid; lend = h }; prints = p }
-
   pub renews : (a : Address) (c : Controller) (k : Station) → Returns c (madeOf a .next) c → k ≡ on c s → Prints 3 (ended (111 ∷ 107 ∷ [])) at out end left → Replies 3 (madeBy (Is a) s) at out (record { station = k; end = end }) left
   unfolding madeBy
   renews a c k r q p = record { is = q ∙ ap (λ (x : Controller). on x s) (r .is); again = moved s k c q m (r .again); prints = p }
@@ -176,17 +171,21 @@ weaker : (j k : ℕ) (w : Served) (at : ℕ) (out : List ℕ) (r : Replied) (lef
 weaker j k w at out r left h q = record { is = q .is; again = q .again; prints = shorter j k (w .text) at (r .end) out left h (q .prints) }
 
 module _ (q : Quantity) (n : ℕ) (s : Station) (at : ℕ) (out : List ℕ) (r : Replied) (left : List ℕ) where
-  pub numbered-ticks : q ≡ Ticks → Replies 32 (waitedOf n s) at out r left → Replies 65 (numberedOf q n s) at out r left
+  pub numbered-ticks : q ≡ Ticks → Replies 38 (waitedOf n s) at out r left → Replies 65 (numberedOf q n s) at out r left
   unfolding numberedOf
-  numbered-ticks e p = rw e (weaker 32 65 (waitedOf n s) at out r left (omega arith) p)
+  numbered-ticks e p = rw e (weaker 38 65 (waitedOf n s) at out r left (omega arith) p)
 
-  pub numbered-run : q ≡ Run → Replies 43 (ranOf n s) at out r left → Replies 65 (numberedOf q n s) at out r left
+  pub numbered-run : q ≡ Run → Replies 49 (ranOf n s) at out r left → Replies 65 (numberedOf q n s) at out r left
   unfolding numberedOf
-  numbered-run e p = rw e (weaker 43 65 (ranOf n s) at out r left (omega arith) p)
+  numbered-run e p = rw e (weaker 49 65 (ranOf n s) at out r left (omega arith) p)
 
   pub numbered-lend : q ≡ Lend → Replies 3 (lentOf n s) at out r left → Replies 65 (numberedOf q n s) at out r left
   unfolding numberedOf
   numbered-lend e p = rw e (weaker 3 65 (lentOf n s) at out r left (omega arith) p)
+
+  pub numbered-tip : q ≡ Tip → Replies 3 (tippedOf n s) at out r left → Replies 65 (numberedOf q n s) at out r left
+  unfolding numberedOf
+  numbered-tip e p = rw e (weaker 3 65 (tippedOf n s) at out r left (omega arith) p)
 
   pub numbered-new : q ≡ New → Replies 3 (madeBy (addressOf n) s) at out r left → Replies 65 (numberedOf q n s) at out r left
   unfolding numberedOf
@@ -232,9 +231,9 @@ module _ (line : List ℕ) (s : Station) (a : Asked) (e : a ≡ askedOf (s .desk
     unfolding didOf
     answers-number x n q p = answers 65 (numberedOf x n s) (rw q) (omega arith) p
 
-    pub answers-stop : a ≡ Stop → Replies 32 (haltedOf s) at out r left → Replies (80 * (length line + 1)) (servedOf line s) at out r left
+    pub answers-stop : a ≡ Stop → Replies 38 (haltedOf s) at out r left → Replies (80 * (length line + 1)) (servedOf line s) at out r left
     unfolding didOf
-    answers-stop q p = answers 32 (haltedOf s) (rw q) (omega arith) p
+    answers-stop q p = answers 38 (haltedOf s) (rw q) (omega arith) p
 
     pub answers-bytes :
         a ≡ Raw → Replies (80 * (length (take (length line - 2) (drop 2 line)) + 3)) (rawOf (bytesIn (take (length line - 2) (drop 2 line))) s) at out r left →

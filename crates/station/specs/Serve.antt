@@ -1,19 +1,22 @@
 -- What a line does to a station and what it prints: 01, "The bench program", and the training rig.
 use Prim.Native.Nat.{ℕ, _≤_}
 use mathlib.Core.Path.{_≡_}
-use mathlib.Core.Bool.{Bool}
+use mathlib.Core.Bool.{Bool, false}
 use mathlib.Core.List.{List, [], _∷_, _++_}
 use lib.Dec.{eqb}
 use lib.ListN.{length, drop, replicate}
 use Rattle.basics.specs.Bytes.{chars}
 use Rattle.line.specs.Wire.{slash, cr}
+use Rattle.motion.specs.declared.Sense.{Sense}
 use Rattle.desk.specs.declared.Desk.{Desk}
+use Rattle.desk.specs.declared.Desk.the-variants.{Bench, Rig}
 use Rattle.desk.specs.declared.Quantity.{Quantity}
-use Rattle.desk.specs.declared.Quantity.the-variants.{Ticks, Run, Lend, New}
+use Rattle.desk.specs.declared.Quantity.the-variants.{Ticks, Run, Lend, New, Tip}
 use Rattle.desk.specs.declared.Asked.{Asked}
 use Rattle.desk.specs.declared.Asked.the-variants.{Send, Number, Stop, Raw, Wrong}
 use Rattle.desk.specs.Desk.{askedOf}
 use Rattle.desk.specs.Hex.{bytesIn}
+use Rattle.machine.specs.declared.Used.{Used}
 use Rattle.pipettor.specs.declared.address.Address.the-variants.{One}
 use Rattle.pipettor.specs.declared.address.Given.{Given}
 use Rattle.pipettor.specs.declared.address.Given.the-variants.{Is, S2}
@@ -30,15 +33,18 @@ use Rattle.station.specs.declared.Told.{Told}
 use Rattle.station.specs.declared.Replied.{Replied}
 use Rattle.printing.specs.Print.{ended, shownOf, placeOf, usedOf, addedOf, closeOf, Prints}
 
-abbrev pub station : Desk → ℕ → Controller → Station
-station desk lend k = record { desk = desk; lend = lend; controller = k }
+abbrev pub station : Desk → ℕ → Sense → Controller → Station
+station desk lend sense k = record { desk = desk; lend = lend; sense = sense; controller = k }
 
--- "Address 1"; answer buffers of 32 bytes at first
+abbrev pub sensing : Bool → Sense
+sensing tip = record { tip = tip }
+
+-- "Address 1"; answer buffers of 32 bytes and no tip at first
 abbrev pub atStart : Desk → Station
-atStart desk = station desk 32 (madeOf One .next)
+atStart desk = station desk 32 (sensing false) (madeOf One .next)
 
 abbrev pub on : Controller → Station → Station
-on k s = station (s .desk) (s .lend) k
+on k s = station (s .desk) (s .lend) (s .sense) k
 
 -- what a line leaves and prints
 pub record Served : Type 0 where
@@ -82,27 +88,36 @@ unfoldable pub sentOf : List ℕ → Station → Served
 sentOf text s = let a = heardOf slash s in sentBy (a .reply .said) text (after a s)
 
 -- where the plunger stands, and the exact position
-unfoldable pub placedOf : Controller → Station → Served
-placedOf k s = let b = k .device .core .body in served (on k s) (placeOf (b .plunger) (b .exact))
+unfoldable pub placedOf : Controller → Bool → Station → Served
+placedOf k asked s = let b = k .device .core .body in served (on k s) (placeOf (b .plunger) (b .exact) asked)
+
+-- 02, W-203: the rig shows that a tick asked; "The bench program .. prints as before."
+abbrev pub showsAsk : Desk → Bool → Bool
+showsAsk Bench asked = false
+showsAsk Rig asked = asked
 
 -- "n ticks, ready or not"
 abbrev pub waitedOf : ℕ → Station → Served
-waitedOf n s = placedOf (advancedOf n (s .controller) .controller) s
+waitedOf n s = let t = advancedOf n (s .sense) (s .controller) in placedOf (t .controller) (showsAsk (s .desk) (t .news .eject)) s
 
 -- "a run of up to n ticks"
-unfoldable pub ranOf : ℕ → Station → Served
-ranOf n s =
-    let r = runOf n (s .controller) in
-    let b = r .ticked .controller .device .core .body in
-    served (on (r .ticked .controller) s) (usedOf (r .used) (b .plunger) (b .exact))
+unfoldable pub usedUp : Used → Controller → Bool → Station → Served
+usedUp used k asked s = let b = k .device .core .body in served (on k s) (usedOf used (b .plunger) (b .exact) asked)
+
+abbrev pub ranOf : ℕ → Station → Served
+ranOf n s = let r = runOf n (s .sense) (s .controller) in usedUp (r .used) (r .ticked .controller) (showsAsk (s .desk) (r .ticked .news .eject)) s
 
 -- "the host's stop"
 abbrev pub haltedOf : Station → Served
-haltedOf s = placedOf (stoppedOf (s .controller) .next) s
+haltedOf s = placedOf (stoppedOf (s .controller) .next) false s
 
 -- "answer buffers have n bytes from now on"
 abbrev pub lentOf : ℕ → Station → Served
-lentOf n s = served (station (s .desk) n (s .controller)) (ended (chars "ok"))
+lentOf n s = served (station (s .desk) n (s .sense) (s .controller)) (ended (chars "ok"))
+
+-- "the tip from now on"
+abbrev pub tippedOf : ℕ → Station → Served
+tippedOf n s = served (station (s .desk) (s .lend) (sensing (eqb n 1)) (s .controller)) (ended (chars "ok"))
 
 -- "a fresh controller of that address ..; n not in 1 to 9 leaves the old one"
 unfoldable pub madeBy : Given → Station → Served
@@ -114,6 +129,7 @@ numberedOf Ticks n s = waitedOf n s
 numberedOf Run n s = ranOf n s
 numberedOf Lend n s = lentOf n s
 numberedOf New n s = madeBy (addressOf n) s
+numberedOf Tip n s = tippedOf n s
 
 -- "raw bytes", one after the other, and what each adds to what was said
 abbrev pub silent : List ℕ → Bool

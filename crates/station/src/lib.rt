@@ -3,6 +3,8 @@ use desk::Asked;
 use desk::Desk;
 use desk::Quantity;
 use desk::hex;
+use machine::Used;
+use motion::Sense;
 use pipettor::Controller;
 use pipettor::Said;
 use pipettor::address::Address;
@@ -15,12 +17,13 @@ ghost use Rattle.desk.specs.Desk.{mostOf};
 ghost use Rattle.desk.specs.Hex.{bytesIn};
 ghost use Rattle.pipettor.specs.Valid.{Valid};
 ghost use Rattle.pipettor.specs.Address.{addressOf};
-ghost use Rattle.station.specs.Serve.{on, toldOf, shownBy, addedBy, goneOn, endedOf, sentOf, placedOf, waitedOf, ranOf, haltedOf, lentOf, madeBy, numberedOf, saidTo, rawOf, didOf, servedOf, Manned, Starts, Tells, Replies};
+ghost use Rattle.station.specs.Serve.{on, toldOf, shownBy, addedBy, goneOn, endedOf, sentOf, placedOf, showsAsk, waitedOf, usedUp, ranOf, haltedOf, lentOf, tippedOf, madeBy, numberedOf, saidTo, rawOf, didOf, servedOf, Manned, Starts, Tells, Replies};
 
-// Whose lines are taken, how many bytes the answer buffers have, and the controller.
+// Whose lines are taken, how many bytes the answer buffers have, what the host senses, and the controller.
 pub struct Station {
     pub desk: Desk,
     pub lend: usize,
+    pub sense: Sense,
     pub controller: Controller,
 }
 
@@ -36,6 +39,16 @@ struct Told {
     said: Said,
 }
 
+// The rig shows that a tick asked, the bench program doesn't.
+fn shows(desk: Desk, asked: bool) -> bool
+    ensures { λ r. ⌜ r ≡ showsAsk desk asked ⌝ }
+{
+    match desk {
+        Desk::Bench => false,
+        Desk::Rig => asked,
+    }
+}
+
 impl Station {
     // "Address 1."
     pub fn new(desk: Desk) -> Station
@@ -45,6 +58,7 @@ impl Station {
         Station {
             desk,
             lend: 32,
+            sense: Sense { tip: false },
             controller,
         }
     }
@@ -53,9 +67,11 @@ impl Station {
         ensures { λ r. ⌜ r ≡ on controller self ⌝ }
     {
         let desk = self.desk;
+        let sense = self.sense;
         Station {
             desk,
             lend: self.lend,
+            sense,
             controller,
         }
     }
@@ -136,17 +152,17 @@ impl Station {
         }
     }
 
-    // Where the plunger is left.
-    fn place(self, controller: Controller, out: &mut [u8], at: usize) -> Replied
+    // Where the plunger is left, and whether a tick asked.
+    fn place(self, controller: Controller, asked: bool, out: &mut [u8], at: usize) -> Replied
         requires { ⌜ Manned self ⌝ }
         requires { ⌜ Valid controller ⌝ }
-        requires { ⌜ at + 32 ≤ length (now out) ⌝ }
-        ensures { λ r. ⌜ Replies 32 (placedOf controller self) at (now (out .entry)) r (now (out .exit)) ⌝ }
+        requires { ⌜ at + 38 ≤ length (now out) ⌝ }
+        ensures { λ r. ⌜ Replies 38 (placedOf controller asked self) at (now (out .entry)) r (now (out .exit)) ⌝ }
     {
         let device = controller.device;
         let core = device.core;
         let body = core.body;
-        let end = printing::place(body.plunger, body.exact, out, at);
+        let end = printing::place(body.plunger, body.exact, asked, out, at);
         Replied {
             station: self.on(controller),
             end,
@@ -155,43 +171,66 @@ impl Station {
 
     fn wait(self, n: u32, out: &mut [u8], at: usize) -> Replied
         requires { ⌜ Manned self ⌝ }
-        requires { ⌜ at + 32 ≤ length (now out) ⌝ }
-        ensures { λ r. ⌜ Replies 32 (waitedOf n self) at (now (out .entry)) r (now (out .exit)) ⌝ }
+        requires { ⌜ at + 38 ≤ length (now out) ⌝ }
+        ensures { λ r. ⌜ Replies 38 (waitedOf n self) at (now (out .entry)) r (now (out .exit)) ⌝ }
     {
         let c = self.controller;
-        let ticked = c.advance(n);
+        let desk = self.desk;
+        let sense = self.sense;
+        let ticked = c.advance(n, sense);
         let after = ticked.controller;
-        self.place(after, out, at)
+        let news = ticked.news;
+        self.place(after, shows(desk, news.eject), out, at)
     }
 
-    fn run(self, n: u32, out: &mut [u8], at: usize) -> Replied
+    // What a run used, and where it left the plunger.
+    fn ran(
+        self,
+        used: Used,
+        controller: Controller,
+        asked: bool,
+        out: &mut [u8],
+        at: usize,
+    ) -> Replied
         requires { ⌜ Manned self ⌝ }
-        requires { ⌜ at + 43 ≤ length (now out) ⌝ }
-        ensures { λ r. ⌜ Replies 43 (ranOf n self) at (now (out .entry)) r (now (out .exit)) ⌝ }
+        requires { ⌜ Valid controller ⌝ }
+        requires { ⌜ at + 49 ≤ length (now out) ⌝ }
+        ensures { λ r. ⌜ Replies 49 (usedUp used controller asked self) at (now (out .entry)) r (now (out .exit)) ⌝ }
     {
-        let c = self.controller;
-        let ran = c.run(n);
-        let used = ran.used;
-        let ticked = ran.ticked;
-        let after = ticked.controller;
-        let device = after.device;
+        let device = controller.device;
         let core = device.core;
         let body = core.body;
-        let end = printing::used(used, body.plunger, body.exact, out, at);
+        let end = printing::used(used, body.plunger, body.exact, asked, out, at);
         Replied {
-            station: self.on(after),
+            station: self.on(controller),
             end,
         }
     }
 
+    fn run(self, n: u32, out: &mut [u8], at: usize) -> Replied
+        requires { ⌜ Manned self ⌝ }
+        requires { ⌜ at + 49 ≤ length (now out) ⌝ }
+        ensures { λ r. ⌜ Replies 49 (ranOf n self) at (now (out .entry)) r (now (out .exit)) ⌝ }
+    {
+        let c = self.controller;
+        let desk = self.desk;
+        let sense = self.sense;
+        let ran = c.run(n, sense);
+        let used = ran.used;
+        let ticked = ran.ticked;
+        let after = ticked.controller;
+        let news = ticked.news;
+        self.ran(used, after, shows(desk, news.eject), out, at)
+    }
+
     fn stop(self, out: &mut [u8], at: usize) -> Replied
         requires { ⌜ Manned self ⌝ }
-        requires { ⌜ at + 32 ≤ length (now out) ⌝ }
-        ensures { λ r. ⌜ Replies 32 (haltedOf self) at (now (out .entry)) r (now (out .exit)) ⌝ }
+        requires { ⌜ at + 38 ≤ length (now out) ⌝ }
+        ensures { λ r. ⌜ Replies 38 (haltedOf self) at (now (out .entry)) r (now (out .exit)) ⌝ }
     {
         let c = self.controller;
         let after = c.stop();
-        self.place(after, out, at)
+        self.place(after, false, out, at)
     }
 
     // Answer buffers of n bytes from now on.
@@ -203,12 +242,34 @@ impl Station {
     {
         let desk = self.desk;
         let controller = self.controller;
+        let sense = self.sense;
         let lend = n as usize;
         let end = printing::line(b"ok", out, at);
         Replied {
             station: Station {
                 desk,
                 lend,
+                sense,
+                controller,
+            },
+            end,
+        }
+    }
+
+    // A tip from now on, or none.
+    fn tip(self, n: u32, out: &mut [u8], at: usize) -> Replied
+        requires { ⌜ Manned self ⌝ }
+        requires { ⌜ at + 3 ≤ length (now out) ⌝ }
+        ensures { λ r. ⌜ Replies 3 (tippedOf n self) at (now (out .entry)) r (now (out .exit)) ⌝ }
+    {
+        let desk = self.desk;
+        let controller = self.controller;
+        let end = printing::line(b"ok", out, at);
+        Replied {
+            station: Station {
+                desk,
+                lend: self.lend,
+                sense: Sense { tip: n == 1 },
                 controller,
             },
             end,
@@ -255,6 +316,7 @@ impl Station {
             Quantity::Run => self.run(n, out, at),
             Quantity::Lend => self.buffers(n, out, at),
             Quantity::New => self.make(n, out, at),
+            Quantity::Tip => self.tip(n, out, at),
         }
     }
 

@@ -27,6 +27,7 @@ partOf (C.Slopes up down) = plain
 partOf (C.Backlash n) = plain
 partOf (C.Compensate b down) = plain
 partOf (C.Delay ms) = plain
+partOf (C.Eject bare) = plain
 
 -- nothing; a command and what follows; a loop with its g, its body, its passes and its G, and what follows. Each command with its places
 pub data Nest : Type 0 where

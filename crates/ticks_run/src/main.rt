@@ -1,4 +1,5 @@
 // Movement ticks by the million, for counting instructions: `t` on standard input is a million through `tick`, `r` a million through `run`.
+use motion::Sense;
 use pipettor::Controller;
 use pipettor::address::Address;
 ghost use Rattle.pipettor.specs.Valid.{Valid};
@@ -28,7 +29,7 @@ fn ticks(start: Controller) -> Controller
     let mut c = start;
     let mut k = 0u32;
     while k < 1_000_000 {
-        let ticked = c.tick();
+        let ticked = c.tick(Sense { tip: false });
         c = ticked.controller;
         k += 1;
     }
@@ -42,7 +43,7 @@ fn runs(start: Controller) -> Controller
     let mut c = start;
     let mut k = 0u32;
     while k < 20 {
-        let ran = c.run(50_000);
+        let ran = c.run(50_000, Sense { tip: false });
         let ticked = ran.ticked;
         c = ticked.controller;
         k += 1;

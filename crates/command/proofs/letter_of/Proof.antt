@@ -22,4 +22,5 @@ letter-of-spec =
     (λ c. search (row letterOf))
     (λ c. search (row letterOf))
     (λ c. search (row letterOf))
+    (λ c. search (row letterOf))
     (λ c. search ne-eqb))

@@ -18,4 +18,6 @@ goal-while-spec =
     (λ c. search laws)
     (λ c. search laws)
     (λ c. search laws)
+    (λ c. search laws)
+    (λ c. search laws)
     (λ c. search laws))

@@ -16,6 +16,8 @@ value-spec =
     (λ c κs. search laws)
     (λ c κs. search laws)
     (λ c κs. search laws)
+    (λ c κs. search laws)
+    (λ c. search laws)
     (λ c. search laws)
     (λ c. search laws)
     (λ c. search laws)

@@ -5,10 +5,10 @@ use Rattle.machine.proofs.step.run.Statement.{statement}
 use Rattle.machine.proofs.step.run.Tie as tie
 
 abbrev Inv-loop : tie.InvT-loop
-Inv-loop text n s₀ used₀ s used = Running s₀ text n s used
+Inv-loop text n sense s₀ used₀ s used = Running s₀ text sense n s used
 
 abbrev μ-loop : tie.MeasureT-loop
-μ-loop text n s₀ used₀ s used = n - used
+μ-loop text n sense s₀ used₀ s used = n - used
 
 ruleset laws = (needs, begins, is-ready, is-over, fits, falls, goes-on)
 

@@ -6,4 +6,5 @@ use Rattle.machine.proofs.step.went.Tie as tie
 ruleset laws = (needs, went-on, went-off)
 
 pub went-spec : {M : Type 1} → statement M
-went-spec = tie.close (tie.spec (λ c. search laws) (λ c. search laws) (λ c κs. search laws) (λ c. search laws) (λ c. search laws))
+went-spec = tie.close
+    (tie.spec (λ c. search laws) (λ c κs. search laws) (λ c. search laws) (λ c κs. search laws) (λ c. search laws) (λ c. search laws))

@@ -1,6 +1,7 @@
 use mathlib.Core.Path.{_≡_}
 use mathlib.Core.Bool.{true}
 use borrow.Author.Needs.{needs}
+use Rattle.motion.specs.declared.Sense.{Sense}
 use Rattle.motion.specs.declared.Body.{Body}
 use Rattle.motion.specs.declared.Travel.{Travel}
 use Rattle.motion.specs.declared.Effect.{Effect}
@@ -19,12 +20,12 @@ module _ (a : Activity) (t : Travel) where
   move-ok : ActivityOk a → a ≡ Moving t → TravelOk t
   move-ok ok e = rw e at ok
 
-  module _ (u : Travel) (l : u ≡ laterOf t) (b : Body) (r : Effect) where
-    home : a ≡ Initialising t → r ≡ carried Initialising true u b → r ≡ onwardOf a b .next
+  module _ (u : Travel) (l : u ≡ laterOf t) (b : Body) (r : Effect) (s : Sense) where
+    home : a ≡ Initialising t → r ≡ carried Initialising true u b → r ≡ onwardOf s a b .next
     unfolding onwardOf
     home e h = rw (e, ← l) h
 
-    move : a ≡ Moving t → r ≡ carried Moving (b .initialised) u b → r ≡ onwardOf a b .next
+    move : a ≡ Moving t → r ≡ carried Moving (b .initialised) u b → r ≡ onwardOf s a b .next
     unfolding onwardOf
     move e h = rw (e, ← l) h
 
@@ -43,6 +44,9 @@ onward-spec =
     (λ c κs. search laws)
     (λ c. search laws)
     (λ c κs. search laws)
+    (λ c. search laws)
+    (λ c κs. search laws)
+    (λ c. search laws)
     (λ c. search laws)
     (λ c. search laws)
     (λ c. search laws)

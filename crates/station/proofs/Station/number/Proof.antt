@@ -1,9 +1,9 @@
 use borrow.Author.Needs.{needs}
-use Rattle.station.proofs.Serving.{numbered-ticks, numbered-run, numbered-lend, numbered-new, lend-within}
+use Rattle.station.proofs.Serving.{numbered-ticks, numbered-run, numbered-lend, numbered-new, numbered-tip, lend-within}
 use Rattle.station.proofs.Station.number.Statement.{statement}
 use Rattle.station.proofs.Station.number.Tie as tie
 
-ruleset laws = (needs, numbered-ticks, numbered-run, numbered-lend, numbered-new, lend-within)
+ruleset laws = (needs, numbered-ticks, numbered-run, numbered-lend, numbered-new, numbered-tip, lend-within)
 
 pub number-spec : {M : Type 1} → statement M
 number-spec = tie.close
@@ -16,6 +16,10 @@ number-spec = tie.close
     (λ c κs. (search laws, (search laws, search laws)))
     (λ c. search laws)
     (λ c κs. search laws)
+    (λ c. search laws)
+    (λ c κs. search laws)
+    (λ c. search laws)
+    (λ c. search laws)
     (λ c. search laws)
     (λ c. search laws)
     (λ c. search laws)

@@ -57,4 +57,6 @@ level-after-spec =
     (λ c. search laws)
     (λ c. search laws)
     (λ c. search laws)
+    (λ c. search laws)
+    (λ c. search laws)
     (λ c. search laws))

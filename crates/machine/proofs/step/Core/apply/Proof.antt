@@ -6,21 +6,26 @@ use Rattle.machine.proofs.step.Core.apply.Tie as tie
 ruleset laws = (needs, applying)
 
 pub apply-spec : {M : Type 1} → statement M
-apply-spec =
-    tie.close
+apply-spec = tie.close
     (tie.spec
     (λ c. search laws)
     (λ c κs. search laws)
-    (λ c. search laws)
-    (λ c κs. search laws)
-    (λ c. search laws)
-    (λ c κs. search laws)
-    (λ c. search laws)
-    (λ c κs. search laws)
     (λ c κs. search laws)
     (λ c. search laws)
     (λ c κs. search laws)
     (λ c κs. search laws)
+    (λ c. search laws)
+    (λ c κs. search laws)
+    (λ c. search laws)
+    (λ c κs. search laws)
+    (λ c κs. search laws)
+    (λ c. search laws)
+    (λ c κs. search laws)
+    (λ c κs. search laws)
+    (λ c. search laws)
+    (λ c κs. search laws)
+    (λ c κs. search laws)
+    (λ c. search laws)
     (λ c. search laws)
     (λ c. search laws)
     (λ c. search laws)

@@ -24,4 +24,6 @@ skip-in-spec =
     (λ c. search laws)
     (λ c. search laws)
     (λ c. search laws)
+    (λ c. search laws)
+    (λ c. search laws)
     (λ c. search laws))

@@ -6,8 +6,7 @@ use Rattle.machine.proofs.step.Core.take.Tie as tie
 ruleset laws = (needs, taking)
 
 pub take-spec : {M : Type 1} → statement M
-take-spec =
-    tie.close
+take-spec = tie.close
     (tie.spec
     (λ c. search laws)
     (λ c κs. search laws)
@@ -15,6 +14,7 @@ take-spec =
     (λ c. search laws)
     (λ c κs. search laws)
     (λ c. search laws)
+    (λ c κs. search laws)
     (λ c κs. search laws)
     (λ c. search laws)
     (λ c. search laws)
