@@ -6,7 +6,7 @@ use Rattle.command.specs.declared.refusal.Refusal.{Refusal}
 use Rattle.command.specs.declared.refusal.Refusal.the-variants as R
 use Rattle.command.specs.Numbers.{refusalNumber}
 use Rattle.motion.specs.declared.Activity.{Activity}
-use Rattle.motion.specs.declared.Activity.the-variants.{Initialising, Moving, Delaying, Ejecting, Between}
+use Rattle.motion.specs.declared.Activity.the-variants.{Initialising, Moving, Delaying, Approaching, Searching, Ejecting, Between}
 use Rattle.buffer.specs.declared.course.State.{State}
 use Rattle.buffer.specs.declared.course.State.the-variants.{Empty, Stored, Running, Stopped, Done}
 use Rattle.buffer.specs.declared.course.Mark.{Mark}
@@ -102,6 +102,8 @@ abbrev pub whileOf : Activity → Column
 whileOf (Initialising t) = K.Busy
 whileOf (Moving t) = K.Busy
 whileOf (Delaying k) = K.Delaying
+whileOf (Approaching t z) = K.Busy
+whileOf (Searching s) = K.Busy
 whileOf Ejecting = K.Busy
 whileOf Between = K.Busy
 

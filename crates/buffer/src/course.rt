@@ -30,6 +30,8 @@ fn column_while(activity: Activity) -> Column
         Activity::Initialising(_) => Column::Busy,
         Activity::Moving(_) => Column::Busy,
         Activity::Delaying(_) => Column::Delaying,
+        Activity::Approaching(_, _) => Column::Busy,
+        Activity::Searching(_) => Column::Busy,
         Activity::Ejecting => Column::Busy,
         Activity::Between => Column::Busy,
     }

@@ -24,10 +24,10 @@ use Rattle.command.specs.declared.Taken.the-variants.{Good, Bad}
 use Rattle.command.specs.declared.Formed.the-variants.{Made}
 use Rattle.command.specs.declared.Found.the-variants as F
 use Rattle.command.specs.Allowed.{Allowed}
-use Rattle.command.specs.Table.{moveBy, compensateBy, ejectBy, letterOf, allowed, nanolitresOf, speedOf, inTenths, flowOf, volumeOf, pacedOf, slopesOf, compensationOf, commandOf}
+use Rattle.command.specs.Table.{moveBy, compensateBy, ejectBy, detectBy, rowOf, letterOf, allowed, nanolitresOf, speedOf, inTenths, flowOf, volumeOf, pacedOf, slopesOf, compensationOf, aspectOf, commandOf}
 use Rattle.command.specs.Command.{foundIn, commandAt}
-use Rattle.command.proofs.Made.{wrong-is-not-made, of-made, of-both, of-unit, of-placed}
-use Rattle.command.proofs.Within.{good-is-not-bad, allowed-is-between, taken-is-between, usual-is-between, whole-is-between}
+use Rattle.command.proofs.Made.{wrong-is-not-made, of-made, of-both, of-unit, of-row, of-placed}
+use Rattle.command.proofs.Within.{good-is-not-bad, allowed-is-between, taken-is-between, usual-is-between, whole-is-between, detail-is-between}
 
 -- a speed, in either unit
 usual-speed-is-between : (pace : Pace) → Between (speedsOf pace) (usualSpeed pace)
@@ -56,7 +56,7 @@ unfolding nanolitresOf
 nanolitres-are-between n v e = taken-is-between 3 (rangeOf Q.Nanolitres) (usualOf Q.Nanolitres) n v (usual-is-between Q.Nanolitres) e
 
 what-is-made-is-allowed : (l : Letter) (t : List ℕ) (c : Command) → commandOf l t ≡ Made c → Allowed c
-unfolding commandOf volumeOf pacedOf slopesOf compensationOf Allowed
+unfolding commandOf volumeOf pacedOf slopesOf compensationOf aspectOf Allowed
 what-is-made-is-allowed L.Home t c e = of-made Allowed c _ C.Initialise _ (whole-is-between Q.Home (numberOf t)) e
 what-is-made-is-allowed (L.Volume way) t c e =
     let p = pairOf t in
@@ -75,6 +75,8 @@ what-is-made-is-allowed L.Compensation t c e =
     let p = pairOf t in
     of-both Allowed c _ compensateBy _ _ (λ n m a b. whole-is-between Q.Compensation (p .first) n a) e
 what-is-made-is-allowed L.Delay t c e = of-made Allowed c _ C.Delay _ (whole-is-between Q.Delay (numberOf t)) e
+what-is-made-is-allowed L.Aspect t c e = of-row Allowed c (rowOf (pairOf t .first)) (pairOf t) (λ a n. detail-is-between a (pairOf t .second) n) e
+what-is-made-is-allowed L.Detect t c e = of-made Allowed c _ detectBy _ (λ n h. tt) e
 what-is-made-is-allowed L.Eject t c e = of-made Allowed c _ ejectBy _ (λ n h. tt) e
 what-is-made-is-allowed L.Open [] c e = let s : C.Open ≡ c = cc in rw (← s) tt
 what-is-made-is-allowed L.Open (b ∷ t) c e = wrong-is-not-made 0 c e

@@ -5,13 +5,18 @@ use Prim.Native.Nat.{ℕ}
 use native.Mathlib.Omega.{arith}
 use lib.Dec.{eqb}
 use Rattle.basics.specs.Choice.{if_then_else_}
+use Rattle.settings.specs.declared.Aspect.{Aspect}
+use Rattle.operand.specs.declared.Pair.{Pair}
 use Rattle.command.specs.declared.Command.{Command}
+use Rattle.command.specs.declared.Command.the-variants as C
+use Rattle.command.specs.declared.Row.{Row}
+use Rattle.command.specs.declared.Row.the-variants.{Of, Missing}
 use Rattle.command.specs.declared.Taken.{Taken}
 use Rattle.command.specs.declared.Taken.the-variants.{Good, Bad}
 use Rattle.command.specs.declared.Formed.{Formed}
 use Rattle.command.specs.declared.Formed.the-variants.{Made, NoLetter, WrongOperand}
 use Rattle.command.specs.declared.Found.the-variants as F
-use Rattle.command.specs.Table.{made, both, inUnit}
+use Rattle.command.specs.Table.{made, both, inUnit, detailOf, setBy}
 use Rattle.command.specs.Command.{placed}
 
 pub wrong-is-not-made : {A : Type 0} (read : ℕ) (c : Command) → WrongOperand read ≡ Made c → A
@@ -38,6 +43,11 @@ module _ (P : Command → Type 0) (c : Command) (read : ℕ) where
       go true q = h q
       go false q = k q
   of-unit Bad a b h k e = wrong-is-not-made read c e
+
+pub of-row : (P : Command → Type 0) (c : Command) (row : Row) (p : Pair) → ((a : Aspect) (n : ℕ) → detailOf a (p .second) ≡ Good n → P (C.Set a n)) → setBy row p ≡ Made c → P c
+unfolding setBy
+of-row P c (Of a) p h e = of-made P c (p .read) (C.Set a) (detailOf a (p .second)) (h a) e
+of-row P c Missing p h e = wrong-is-not-made (p .read) c e
 
 pub of-placed : (P : Command → Type 0) (at n : ℕ) (f : Formed) (c : Command) (next : ℕ) → ((d : Command) → f ≡ Made d → P d) → placed at n f ≡ F.Command c next → P c
 unfolding placed

@@ -1,15 +1,21 @@
 -- Laws of what numbers make, stated as the code meets them: what a function gave is known to be what its definition says, and to be the case at hand.
 use mathlib.Core.Path.{_≡_}
-use Prim.Native.Nat.{ℕ}
+use Prim.Native.Nat.{ℕ, _/_}
 use Rattle.basics.proofs.Rules.{tests}
 use Rattle.settings.specs.declared.Range.{Range}
+use Rattle.settings.specs.declared.Aspect.{Aspect}
 use Rattle.operand.specs.declared.Number.{Number}
+use Rattle.operand.specs.declared.Number.the-variants.{Absent, Is, Wrong}
+use Rattle.operand.specs.declared.Pair.{Pair}
 use Rattle.command.specs.declared.Command.{Command}
+use Rattle.command.specs.declared.Command.the-variants as C
+use Rattle.command.specs.declared.Row.{Row}
+use Rattle.command.specs.declared.Row.the-variants.{Of, Missing}
 use Rattle.command.specs.declared.Taken.{Taken}
 use Rattle.command.specs.declared.Taken.the-variants.{Good, Bad}
 use Rattle.command.specs.declared.Formed.{Formed}
 use Rattle.command.specs.declared.Formed.the-variants.{Made, WrongOperand}
-use Rattle.command.specs.Table.{takenOf, made, both, inUnit}
+use Rattle.command.specs.Table.{takenOf, made, both, inUnit, rowAt, rowOf, detailOf, setBy}
 
 -- a number of the table, by its range and its default
 pub accepted : (k : ℕ) (range R : Range) (usual U : ℕ) (n : Number) (r : Taken) → range ≡ R → usual ≡ U → r ≡ takenOf k range usual n → r ≡ takenOf k R U n
@@ -57,6 +63,37 @@ module _ (read : ℕ) (x t : Taken) (e : x ≡ t) (increments micro : Formed) wh
     pub unit-micro : (unit ≡ 0 → ⊥) → r ≡ micro → r ≡ inUnit read t increments micro
     unfolding inUnit
     unit-micro z q = rw (← e, h) (simp tests q)
+
+-- the first number of p
+module _ (n : Number) where
+  pub row-absent : n ≡ Absent → Missing ≡ rowOf n
+  unfolding rowOf
+  row-absent h = rw h
+
+  pub row-wrong : (read : ℕ) → n ≡ Wrong read → Missing ≡ rowOf n
+  unfolding rowOf
+  row-wrong read h = rw h
+
+  module _ (thousandths decimals : ℕ) (h : n ≡ Is thousandths decimals) where
+    pub row-pointed : (decimals ≡ 0 → ⊥) → Missing ≡ rowOf n
+    unfolding rowOf
+    row-pointed z = rw h (simp tests)
+
+    pub row-whole : (r : Row) → decimals ≡ 0 → r ≡ rowAt (thousandths / 1000) → r ≡ rowOf n
+    unfolding rowOf
+    row-whole r z q = rw (h, z) q
+
+-- p: a row and what it sets
+module _ (x row : Row) (e : x ≡ row) (p : Pair) where
+  pub set-row : (a : Aspect) (r : Formed) → x ≡ Of a → r ≡ made (p .read) (C.Set a) (detailOf a (p .second)) → r ≡ setBy row p
+  unfolding setBy
+  set-row a r h q = rw (← e, h) q
+
+  pub set-none : x ≡ Missing → WrongOperand (p .read) ≡ setBy row p
+  unfolding setBy
+  set-none h = rw (← e, h)
+
+pub ruleset first-number = (row-absent, row-wrong, row-pointed, row-whole)
 
 pub ruleset one-number = (made-good, made-bad)
 

@@ -1,6 +1,6 @@
 -- What is known of 01's numbers: none is 0, which is "accepted", and each fits the four bits of the status byte.
 use mathlib.Core.Path.{_≡_, refl}
-use Prim.Native.Nat.{ℕ, _≤_, _<_}
+use Prim.Native.Nat.{_≤_, _<_}
 use native.Mathlib.Omega.{arith}
 use Rattle.command.specs.declared.refusal.Misread.the-variants.{Letter, Operand}
 use Rattle.command.specs.declared.refusal.Refusal.{Refusal}
@@ -16,6 +16,9 @@ every-number-is-1-to-15 R.Report = (omega arith, omega arith)
 every-number-is-1-to-15 R.Loops = (omega arith, omega arith)
 every-number-is-1-to-15 R.StartAboveTop = (omega arith, omega arith)
 every-number-is-1-to-15 R.Outside = (omega arith, omega arith)
+every-number-is-1-to-15 R.NoWayDown = (omega arith, omega arith)
+every-number-is-1-to-15 R.TooMuchPressure = (omega arith, omega arith)
+every-number-is-1-to-15 R.NoLiquid = (omega arith, omega arith)
 every-number-is-1-to-15 R.NotInitialised = (omega arith, omega arith)
 every-number-is-1-to-15 R.StillThere = (omega arith, omega arith)
 every-number-is-1-to-15 R.NoTip = (omega arith, omega arith)

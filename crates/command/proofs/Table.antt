@@ -7,6 +7,8 @@ use Prim.Native.String.{String}
 use lib.ListN.{length}
 use Rattle.basics.specs.Bytes.{chars, digit, every, valueOf}
 use Rattle.settings.specs.declared.Pace.the-variants.{Top, Start, Cutoff}
+use Rattle.settings.specs.declared.Aspect.the-variants as Detail
+use Rattle.settings.specs.declared.Aspect.the-variants.{Threshold, Duration, Place, Most, Mode, Interval}
 use Rattle.settings.specs.Limits.{within}
 use Rattle.settings.specs.Units.{nearest, tenthsOf}
 use Rattle.operand.specs.Text.{run, rest}
@@ -15,10 +17,10 @@ use Rattle.operand.specs.Number.{digits, decimalsOf, followedOf, numberOf, righ
 use Rattle.command.specs.declared.Way.{Way}
 use Rattle.command.specs.declared.Way.the-variants.{To, Up, Down}
 use Rattle.command.specs.declared.Command.{Command}
-use Rattle.command.specs.declared.Command.the-variants.{Initialise, Speed, Slopes, Backlash, Compensate, Delay, Eject, Open, Close}
+use Rattle.command.specs.declared.Command.the-variants.{Initialise, Speed, Slopes, Backlash, Compensate, Delay, Set, Detect, Eject, Open, Close}
 use Rattle.command.specs.declared.Found.{Found}
 use Rattle.command.specs.declared.Found.the-variants as F
-use Rattle.command.specs.Table.{moveBy, letterOf, allowed, takenOf, wholeOf, nanolitresOf, speedOf, inTenths, flowOf, made, both, inUnit, volumeOf, pacedOf, slopesOf, compensationOf, commandOf}
+use Rattle.command.specs.Table.{moveBy, letterOf, allowed, takenOf, wholeOf, nanolitresOf, speedOf, inTenths, flowOf, made, both, inUnit, volumeOf, pacedOf, slopesOf, compensationOf, rowAt, rowOf, detailOf, setBy, aspectOf, commandOf}
 use Rattle.command.specs.declared.refusal.Misread.the-variants as M
 use Rattle.command.specs.declared.refusal.Refusal.the-variants as R
 use Rattle.command.specs.Numbers.{refusalNumber}
@@ -187,6 +189,53 @@ table =
     "M" reads Delay 10 ∷
     "M," refused 3 ∷
     "M30000.0" refused 3 ∷
+    "p0,0" refused 3 ∷  -- p
+    "p0,1" reads Set Threshold 1 ∷
+    "p0,1000" reads Set Threshold 1000 ∷
+    "p0,1001" refused 3 ∷
+    "p0" reads Set Threshold 15 ∷
+    "p1,0" refused 3 ∷
+    "p1,1" reads Set Duration 1 ∷
+    "p1,100" reads Set Duration 100 ∷
+    "p1,101" refused 3 ∷
+    "p1," reads Set Duration 5 ∷
+    "p2,0" reads Set Place 0 ∷
+    "p2,44000" reads Set Place 44000 ∷
+    "p2,44001" refused 3 ∷
+    "p2" reads Set Place 0 ∷
+    "p3,99" refused 3 ∷
+    "p3,100" reads Set Detail.Speed 100 ∷
+    "p3,1000" reads Set Detail.Speed 1000 ∷
+    "p3,1001" refused 3 ∷
+    "p3,150.0" refused 3 ∷
+    "p3" reads Set Detail.Speed 150 ∷
+    "p4,499" refused 3 ∷
+    "p4,500" reads Set Most 500 ∷
+    "p4,44000" reads Set Most 44000 ∷
+    "p4,44001" refused 3 ∷
+    "p4" reads Set Most 44000 ∷
+    "p5,0" reads Set Mode 0 ∷
+    "p5,1" reads Set Mode 1 ∷
+    "p5,2" refused 3 ∷
+    "p5" reads Set Mode 0 ∷
+    "p6,0" refused 3 ∷
+    "p6,1" reads Set Interval 1 ∷
+    "p6,20" reads Set Interval 20 ∷
+    "p6,21" refused 3 ∷
+    "p06" reads Set Interval 20 ∷
+    "p7" refused 3 ∷
+    "p7,1" refused 3 ∷
+    "p" refused 3 ∷  -- the first number is never absent, and has no point
+    "p," refused 3 ∷
+    "p,5" refused 3 ∷
+    "p0.0,5" refused 3 ∷
+    "p0,5,5" refused 3 ∷
+    "B0" reads Detect false ∷  -- B
+    "B1" reads Detect true ∷
+    "B2" refused 3 ∷
+    "B" reads Detect false ∷
+    "B," refused 3 ∷
+    "B1.0" refused 3 ∷
     "E0" reads Eject false ∷  -- E
     "E1" reads Eject true ∷
     "E2" refused 3 ∷
@@ -268,5 +317,5 @@ parts =
 
 -- every row is what the definitions say
 pub the-table-holds : (answersOf table ≡ expectedOf table) × (foundOf parts ≡ refusedOf parts)
-unfolding within nearest tenthsOf digit every valueOf run rest longest few follows begins readIn digits decimalsOf followedOf numberOf right wellFormed behindComma parted beginsTwo readInTwo pairOf letterOf allowed takenOf wholeOf nanolitresOf speedOf inTenths flowOf made both inUnit volumeOf pacedOf slopesOf compensationOf commandOf placed foundIn commandAt
+unfolding within nearest tenthsOf digit every valueOf run rest longest few follows begins readIn digits decimalsOf followedOf numberOf right wellFormed behindComma parted beginsTwo readInTwo pairOf letterOf allowed takenOf wholeOf nanolitresOf speedOf inTenths flowOf made both inUnit volumeOf pacedOf slopesOf compensationOf rowAt rowOf detailOf setBy aspectOf commandOf placed foundIn commandAt
 the-table-holds = (refl, refl)

@@ -11,13 +11,15 @@ use Rattle.basics.specs.Choice.{if_then_else_}
 use Rattle.settings.specs.declared.Range.{Range}
 use Rattle.settings.specs.declared.Quantity.{Quantity}
 use Rattle.settings.specs.declared.Quantity.the-variants.{Home, Increments, Nanolitres, Slope, Backlash, Compensation, Choice, Delay, Passes}
-use Rattle.settings.specs.Limits.{within, rangeOf, usualOf, Between}
-use Rattle.settings.proofs.Limits.{what-a-range-has-is-between}
+use Rattle.settings.specs.declared.Aspect.{Aspect}
+use Rattle.settings.specs.declared.Aspect.the-variants.{Threshold, Duration, Place, Speed, Most, Mode, Interval}
+use Rattle.settings.specs.Limits.{within, rangeOf, usualOf, aspectsOf, usualAspect, Between}
+use Rattle.settings.proofs.Limits.{what-a-range-has-is-between, every-aspect-is-small}
 use Rattle.operand.specs.declared.Number.{Number}
 use Rattle.operand.specs.declared.Number.the-variants.{Absent, Is, Wrong}
 use Rattle.command.specs.declared.Taken.{Taken}
 use Rattle.command.specs.declared.Taken.the-variants.{Good, Bad}
-use Rattle.command.specs.Table.{rangedOf, allowed, takenOf, wholeOf}
+use Rattle.command.specs.Table.{rangedOf, allowed, takenOf, wholeOf, detailOf}
 
 pub good-is-not-bad : {A : Type 0} (v : ℕ) → Bad ≡ Good v → A
 good-is-not-bad v e = let z : _≡_ {A = ℕ} 0 1 = cc in absurd (omega arith)
@@ -58,6 +60,22 @@ pub whole-is-between : (q : Quantity) (n : Number) (v : ℕ) → wholeOf q n ≡
 unfolding wholeOf
 whole-is-between q n v e = taken-is-between 0 (rangeOf q) (usualOf q) n v (usual-is-between q) e
 
+usual-aspect-is-between : (a : Aspect) → Between (aspectsOf a) (usualAspect a)
+usual-aspect-is-between Threshold = omega arith
+usual-aspect-is-between Duration = omega arith
+usual-aspect-is-between Place = omega arith
+usual-aspect-is-between Speed = omega arith
+usual-aspect-is-between Most = omega arith
+usual-aspect-is-between Mode = omega arith
+usual-aspect-is-between Interval = omega arith
+
+pub detail-is-between : (a : Aspect) (n : Number) (v : ℕ) → detailOf a n ≡ Good v → Between (aspectsOf a) v
+unfolding detailOf
+detail-is-between a n v e = taken-is-between 0 (aspectsOf a) (usualAspect a) n v (usual-aspect-is-between a) e
+
 -- a range below 2 ^ 16 makes a number that fits 16 bits
 pub small : (q : Quantity) (x : Taken) (n : Number) (v : ℕ) → ltb (rangeOf q .most) 65536 ≡ true → x ≡ wholeOf q n → x ≡ Good v → Fits w16 v
 small q x n v m e h = omega (arith, whole-is-between q n v (sym e ∙ h), ltb-true (rangeOf q .most) 65536 m)
+
+pub small-detail : (a : Aspect) (x : Taken) (n : Number) (v : ℕ) → x ≡ detailOf a n → x ≡ Good v → Fits w16 v
+small-detail a x n v e h = omega (arith, every-aspect-is-small a v (detail-is-between a n v (sym e ∙ h)))

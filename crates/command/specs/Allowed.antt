@@ -2,7 +2,7 @@
 use mathlib.Core.Bool.{Bool, true, false}
 use Rattle.settings.specs.declared.Range.{Range}
 use Rattle.settings.specs.declared.Quantity.the-variants as Q
-use Rattle.settings.specs.Limits.{rangeOf, speedsOf, Between}
+use Rattle.settings.specs.Limits.{rangeOf, speedsOf, aspectsOf, Between}
 use Rattle.command.specs.declared.Command.{Command}
 use Rattle.command.specs.declared.Command.the-variants as C
 
@@ -19,6 +19,8 @@ Allowed (C.Slopes up down) = Between (rangeOf Q.Slope) up × Between (rangeOf Q.
 Allowed (C.Backlash n) = Between (rangeOf Q.Backlash) n
 Allowed (C.Compensate b down) = Between (rangeOf Q.Compensation) b
 Allowed (C.Delay n) = Between (rangeOf Q.Delay) n
+Allowed (C.Set a n) = Between (aspectsOf a) n
+Allowed (C.Detect here) = Unit {0}
 Allowed (C.Eject bare) = Unit {0}
 Allowed C.Open = Unit {0}
 Allowed (C.Close n) = Between (rangeOf Q.Passes) n

@@ -17,6 +17,10 @@ refusalNumber R.Report = 3
 refusalNumber R.Loops = 3
 refusalNumber R.StartAboveTop = 3  -- 02, W-205
 refusalNumber R.Outside = 3
+-- 02, W-206: "3 for p5 of 1 with p2 of 0, 5 for a reading outside -32767 to 32767 .., 6 when p4 increments or the end of travel are reached in a tick without a find"
+refusalNumber R.NoWayDown = 3
+refusalNumber R.TooMuchPressure = 5
+refusalNumber R.NoLiquid = 6
 -- "A, P or D taken while not initialised"; 02, W-203: "7 for E1 uninitialised"
 refusalNumber R.NotInitialised = 7
 -- 02, W-203: "8 for a failed eject"; "10 for E0 without a tip"
@@ -45,6 +49,9 @@ refusalColumn R.Report = 0
 refusalColumn R.Loops = 0
 refusalColumn R.StartAboveTop = 0
 refusalColumn R.Outside = 0
+refusalColumn R.NoWayDown = 0
+refusalColumn R.TooMuchPressure = 0
+refusalColumn R.NoLiquid = 0
 refusalColumn R.NotInitialised = 0
 refusalColumn R.StillThere = 0
 refusalColumn R.NoTip = 0

@@ -7,9 +7,11 @@ use Rattle.basics.specs.Choice.{if_then_else_}
 use Rattle.settings.specs.declared.Range.{Range}
 use Rattle.settings.specs.declared.Pace.{Pace}
 use Rattle.settings.specs.declared.Pace.the-variants.{Top, Start, Cutoff}
+use Rattle.settings.specs.declared.Aspect.{Aspect}
+use Rattle.settings.specs.declared.Aspect.the-variants.{Threshold, Duration, Place, Speed, Most, Mode, Interval}
 use Rattle.settings.specs.declared.Quantity.{Quantity}
 use Rattle.settings.specs.declared.Quantity.the-variants as Q
-use Rattle.settings.specs.Limits.{within, rangeOf, usualOf, speedsOf, flowsOf, usualSpeed}
+use Rattle.settings.specs.Limits.{within, rangeOf, usualOf, speedsOf, flowsOf, usualSpeed, aspectsOf, usualAspect}
 use Rattle.settings.specs.Units.{tenthsOf}
 use Rattle.operand.specs.declared.Number.{Number}
 use Rattle.operand.specs.declared.Number.the-variants.{Absent, Is, Wrong}
@@ -25,6 +27,8 @@ use Rattle.command.specs.declared.Command.{Command}
 use Rattle.command.specs.declared.Command.the-variants as C
 use Rattle.command.specs.declared.Taken.{Taken}
 use Rattle.command.specs.declared.Taken.the-variants.{Good, Bad}
+use Rattle.command.specs.declared.Row.{Row}
+use Rattle.command.specs.declared.Row.the-variants.{Of, Missing}
 use Rattle.command.specs.declared.Formed.{Formed}
 use Rattle.command.specs.declared.Formed.the-variants.{Made, NoLetter, WrongOperand}
 
@@ -37,6 +41,10 @@ compensateBy b way = C.Compensate b (eqb way 1)
 -- 02, W-203: "E takes 0 or 1 (default 0)"
 abbrev pub ejectBy : ℕ → Command
 ejectBy n = C.Eject (eqb n 1)
+
+-- 02, W-206, "B0 or B1": 0 where it is absent (004, 5.8)
+abbrev pub detectBy : ℕ → Command
+detectBy n = C.Detect (eqb n 1)
 
 -- "Any character that belongs to no operand text counts as a letter here"; those outside the table are `Other`
 unfoldable pub letterOf : ℕ → Letter
@@ -52,6 +60,8 @@ letterOf b =
     else if eqb b 75 then L.Backlash  -- K
     else if eqb b 98 then L.Compensation  -- b
     else if eqb b 77 then L.Delay  -- M
+    else if eqb b 112 then L.Aspect  -- p
+    else if eqb b 66 then L.Detect  -- B
     else if eqb b 69 then L.Eject  -- E
     else if eqb b 103 then L.Open  -- g
     else if eqb b 71 then L.Close  -- G
@@ -129,6 +139,35 @@ slopesOf p = both (p .read) C.Slopes (wholeOf Q.Slope (p .first)) (wholeOf Q.Slo
 unfoldable pub compensationOf : Pair → Formed
 compensationOf p = both (p .read) compensateBy (wholeOf Q.Compensation (p .first)) (wholeOf Q.Choice (p .second))
 
+-- 004, 5.8: the rows of p, by its first number
+unfoldable pub rowAt : ℕ → Row
+rowAt n =
+    if eqb n 0 then Of Threshold
+    else if eqb n 1 then Of Duration
+    else if eqb n 2 then Of Place
+    else if eqb n 3 then Of Speed
+    else if eqb n 4 then Of Most
+    else if eqb n 5 then Of Mode
+    else if eqb n 6 then Of Interval
+    else Missing
+
+-- "3 for p without a first operand"
+unfoldable pub rowOf : Number → Row
+rowOf Absent = Missing
+rowOf (Is n decimals) = if eqb decimals 0 then rowAt (n / 1000) else Missing
+rowOf (Wrong read) = Missing
+
+-- its second number has the range and the default of its row
+unfoldable pub detailOf : Aspect → Number → Taken
+detailOf a n = takenOf 0 (aspectsOf a) (usualAspect a) n
+
+unfoldable pub setBy : Row → Pair → Formed
+setBy (Of a) p = made (p .read) (C.Set a) (detailOf a (p .second))
+setBy Missing p = WrongOperand (p .read)
+
+unfoldable pub aspectOf : Pair → Formed
+aspectOf p = setBy (rowOf (p .first)) p
+
 -- what a letter and its operand text make: 01's table
 unfoldable pub commandOf : Letter → List ℕ → Formed
 commandOf L.Home t = oneOf C.Initialise Q.Home (singleOf t)
@@ -138,6 +177,8 @@ commandOf L.Slopes t = slopesOf (pairOf t)
 commandOf L.Backlash t = oneOf C.Backlash Q.Backlash (singleOf t)
 commandOf L.Compensation t = compensationOf (pairOf t)
 commandOf L.Delay t = oneOf C.Delay Q.Delay (singleOf t)
+commandOf L.Aspect t = aspectOf (pairOf t)
+commandOf L.Detect t = oneOf detectBy Q.Choice (singleOf t)
 commandOf L.Eject t = oneOf ejectBy Q.Choice (singleOf t)
 commandOf L.Open [] = Made C.Open
 commandOf L.Open (b ∷ t) = WrongOperand 0  -- "An operand on g is 3."
@@ -153,6 +194,8 @@ readBy L.Slopes t = readInTwo t
 readBy L.Backlash t = readIn t
 readBy L.Compensation t = readInTwo t
 readBy L.Delay t = readIn t
+readBy L.Aspect t = readInTwo t
+readBy L.Detect t = readIn t
 readBy L.Eject t = readIn t
 readBy L.Open t = 0
 readBy L.Close t = readIn t

@@ -5,6 +5,7 @@ use operand::Number;
 use operand::Pair;
 use operand::Single;
 use refusal::Misread;
+use settings::Aspect;
 use settings::Pace;
 use settings::Quantity;
 use settings::Range;
@@ -13,7 +14,7 @@ use settings::Volume;
 use settings::units;
 ghost use mathlib.Core.Path.{_≡_};
 ghost use Prim.Native.Nat.{_+_, _-_, _^_, _≤_};
-ghost use Rattle.command.specs.Table.{letterOf, rangedOf, allowed, takenOf, wholeOf, nanolitresOf, speedOf, inTenths, flowOf, made, oneOf, ejectBy, moveBy, volumeOf, pacedOf, slopesOf, compensationOf, commandOf};
+ghost use Rattle.command.specs.Table.{letterOf, rangedOf, allowed, takenOf, wholeOf, nanolitresOf, speedOf, inTenths, flowOf, made, oneOf, ejectBy, rowAt, rowOf, detailOf, aspectOf, detectBy, moveBy, volumeOf, pacedOf, slopesOf, compensationOf, commandOf};
 ghost use Rattle.command.specs.Command.{placed, commandAt};
 
 // A, P and D: to a place, up from here, down from here.
@@ -37,6 +38,10 @@ pub enum Command {
     Compensate(u16, bool),
     // M: milliseconds.
     Delay(u32),
+    // p: what is set, and to what.
+    Set(Aspect, u16),
+    // B, and whether it begins where the plunger is.
+    Detect(bool),
     // E, and whether it does without a tip.
     Eject(bool),
     // g.
@@ -61,6 +66,8 @@ pub enum Letter {
     Backlash,
     Compensation,
     Delay,
+    Aspect,
+    Detect,
     Eject,
     Open,
     Close,
@@ -71,6 +78,12 @@ pub enum Letter {
 pub enum Taken {
     Good(u32),
     Bad,
+}
+
+// What p sets, by its first number.
+pub enum Row {
+    Of(Aspect),
+    Missing,
 }
 
 // What a letter and its operand text make.
@@ -96,6 +109,8 @@ fn letter_of(b: u8) -> Letter
         b'K' => Letter::Backlash,
         b'b' => Letter::Compensation,
         b'M' => Letter::Delay,
+        b'p' => Letter::Aspect,
+        b'B' => Letter::Detect,
         b'E' => Letter::Eject,
         b'g' => Letter::Open,
         b'G' => Letter::Close,
@@ -341,6 +356,87 @@ fn eject(only: Single) -> Formed
     }
 }
 
+// p0 to p6.
+fn row_at(n: u32) -> Row
+    ensures { λ r. ⌜ r ≡ rowAt n ⌝ }
+{
+    match n {
+        0 => Row::Of(Aspect::Threshold),
+        1 => Row::Of(Aspect::Duration),
+        2 => Row::Of(Aspect::Place),
+        3 => Row::Of(Aspect::Speed),
+        4 => Row::Of(Aspect::Most),
+        5 => Row::Of(Aspect::Mode),
+        6 => Row::Of(Aspect::Interval),
+        _ => Row::Missing,
+    }
+}
+
+// The first number of p: a whole one, and never absent.
+fn row_for(n: Number) -> Row
+    ensures { λ r. ⌜ r ≡ rowOf n ⌝ }
+{
+    match n {
+        Number::Absent => Row::Missing,
+        Number::Is {
+            thousandths,
+            decimals,
+        } => {
+            if decimals != 0 {
+                return Row::Missing;
+            }
+            row_at(thousandths / 1000)
+        }
+        Number::Wrong(_) => Row::Missing,
+    }
+}
+
+// Its second number.
+fn detail(of: Aspect, n: Number) -> Taken
+    ensures { λ r. ⌜ r ≡ detailOf of n ⌝ }
+{
+    let range = Settings::aspects(of);
+    let usual = Settings::usual_aspect(of);
+    accept(0, 1000, range, usual, n)
+}
+
+fn set_to(read: usize, of: Aspect, second: Number) -> Formed
+    ensures { λ r. ⌜ r ≡ made read (Command.Set of) (detailOf of second) ⌝ }
+{
+    match detail(of, second) {
+        Taken::Good(n) => {
+            let to = n as u16;
+            Formed::Made(Command::Set(of, to))
+        }
+        Taken::Bad => Formed::WrongOperand(read),
+    }
+}
+
+// p.
+fn aspect(pair: Pair) -> Formed
+    ensures { λ r. ⌜ r ≡ aspectOf pair ⌝ }
+{
+    let first = pair.first;
+    let second = pair.second;
+    let read = pair.read;
+    match row_for(first) {
+        Row::Of(of) => set_to(read, of, second),
+        Row::Missing => Formed::WrongOperand(read),
+    }
+}
+
+// B.
+fn detect(only: Single) -> Formed
+    ensures { λ r. ⌜ r ≡ oneOf detectBy Quantity.Choice only ⌝ }
+{
+    let n = only.number;
+    let read = only.read;
+    match whole(Quantity::Choice, n) {
+        Taken::Good(which) => Formed::Made(Command::Detect(which == 1)),
+        Taken::Bad => Formed::WrongOperand(read),
+    }
+}
+
 // G.
 fn close(only: Single) -> Formed
     ensures { λ r. ⌜ r ≡ oneOf Command.Close Quantity.Passes only ⌝ }
@@ -375,6 +471,8 @@ fn form(letter: Letter, t: &[u8]) -> Formed
         Letter::Backlash => backlash(operand::only(t)),
         Letter::Compensation => compensation(operand::two(t)),
         Letter::Delay => delay(operand::only(t)),
+        Letter::Aspect => aspect(operand::two(t)),
+        Letter::Detect => detect(operand::only(t)),
         Letter::Eject => eject(operand::only(t)),
         Letter::Open => opened(t),
         Letter::Close => close(operand::only(t)),

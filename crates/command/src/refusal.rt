@@ -20,6 +20,12 @@ pub enum Refusal {
     StartAboveTop,
     // A goal outside travel.
     Outside,
+    // B with p5 of 1 and p2 of 0.
+    NoWayDown,
+    // A reading outside -32767 to 32767.
+    TooMuchPressure,
+    // B has found no liquid.
+    NoLiquid,
     NotInitialised,
     // E, and the tip is still there.
     StillThere,
@@ -79,6 +85,9 @@ impl Refusal {
             Refusal::Loops => 3,
             Refusal::StartAboveTop => 3,
             Refusal::Outside => 3,
+            Refusal::NoWayDown => 3,
+            Refusal::TooMuchPressure => 5,
+            Refusal::NoLiquid => 6,
             Refusal::NotInitialised => 7,
             Refusal::StillThere => 8,
             Refusal::NoTip => 10,
@@ -98,6 +107,9 @@ impl Refusal {
             Refusal::Loops => 0,
             Refusal::StartAboveTop => 0,
             Refusal::Outside => 0,
+            Refusal::NoWayDown => 0,
+            Refusal::TooMuchPressure => 0,
+            Refusal::NoLiquid => 0,
             Refusal::NotInitialised => 0,
             Refusal::StillThere => 0,
             Refusal::NoTip => 0,

@@ -3,6 +3,7 @@ use command::Command;
 use command::Found;
 use command::Way;
 use command::refusal::Misread;
+use settings::Aspect;
 use settings::Pace;
 use settings::Volume;
 
@@ -63,6 +64,31 @@ fn compensate(by: u16, down: bool) {
     say(b" up");
 }
 
+fn aspect(of: Aspect) {
+    match of {
+        Aspect::Threshold => say(b"p0"),
+        Aspect::Duration => say(b"p1"),
+        Aspect::Place => say(b"p2"),
+        Aspect::Speed => say(b"p3"),
+        Aspect::Most => say(b"p4"),
+        Aspect::Mode => say(b"p5"),
+        Aspect::Interval => say(b"p6"),
+    }
+}
+
+fn set(of: Aspect, n: u16) {
+    aspect(of);
+    counted(b" to ", n as u32, b"");
+}
+
+fn detect(here: bool) {
+    if here {
+        say(b"search from here");
+        return;
+    }
+    say(b"search from p2");
+}
+
 fn eject(bare: bool) {
     if bare {
         say(b"eject, with a tip or without");
@@ -90,6 +116,8 @@ fn command(c: Command) {
         Command::Backlash(n) => counted(b"backlash ", n, b""),
         Command::Compensate(by, down) => compensate(by, down),
         Command::Delay(ms) => counted(b"delay ", ms, b" ms"),
+        Command::Set(of, n) => set(of, n),
+        Command::Detect(here) => detect(here),
         Command::Eject(bare) => eject(bare),
         Command::Open => say(b"open a loop"),
         Command::Close(passes) => counted(b"close a loop of ", passes, b" passes"),

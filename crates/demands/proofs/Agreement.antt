@@ -2,6 +2,8 @@
 use mathlib.Core.Path.{_≡_, refl, ap, subst, _∙_}
 use mathlib.Core.Bool.{false}
 use mathlib.Core.List.{List, [], _∷_, _++_}
+use lib.IntN.{pos}
+use Rattle.motion.specs.Bodies.{sensing, nothingSensed}
 use Rattle.pipettor.specs.declared.address.Address.{Address}
 use Rattle.pipettor.specs.declared.address.Address.the-variants.{One}
 use Rattle.pipettor.specs.declared.Controller.{Controller}
@@ -12,7 +14,7 @@ use Rattle.demands.specs.Calls.{lent, Call, byte, listen, tick, stop, ad
 use Rattle.demands.specs.Contracts.{Program, Made, makes, Meets, TakesAll, leftBy, answeredBy}
 use Rattle.demands.specs.Frames.{frameAfter}
 use Rattle.demands.specs.Demands.{Agrees, Agreement}
-use Rattle.demands.specs.Script.{Line, _answers_, _ticks_exact_, _run-uses_, _ticks-with_ask_, sensing, lastOf, definition, program, callsOf, seen, wrongIn, wrongOf, TakesScript, TakesScripts}
+use Rattle.demands.specs.Script.{Line, _answers_, _ticks_exact_, _run-uses_, _ticks-with_ask_, _ticks-at_reach_exact_, lastOf, definition, program, callsOf, seen, wrongIn, wrongOf, TakesScript, TakesScripts}
 use Rattle.demands.proofs.Examples.{impostors, computed}
 use Rattle.demands.proofs.Frames.{a-controller-hears}
 use Rattle.demands.proofs.Exchanges.{an-agreeing-program-exchanges}
@@ -74,14 +76,16 @@ every-program-that-meets-the-contracts-agrees =
 
 -- scripts
 module _ (p : Program) (m : Meets p) where
+  placed-alike : (calls : List Call) → TakesAll p calls → (let b = program p .left calls .device .core .body in b .plunger ∷ b .exact ∷ []) ≡ (let b = definition .left calls .device .core .body in b .plunger ∷ b .exact ∷ [])
+  placed-alike calls t = ap (λ (k : Controller). k .device .core .body .plunger ∷ k .device .core .body .exact ∷ []) (every-program-agrees p m One calls t .controller)
+
   seen-alike : (calls : List Call) (l : Line) → TakesAll p (calls ++ callsOf l) → seen (program p) calls l ≡ seen definition calls l
   unfolding seen
   seen-alike calls (text answers reply) t = ap lastOf (every-program-agrees p m One (calls ++ callsOf (text answers reply)) t .answered)
-  seen-alike calls (n ticks place exact millionths) t =
-      ap (λ (k : Controller). k .device .core .body .plunger ∷ k .device .core .body .exact ∷ [])
-      (every-program-agrees p m One (calls ++ advance n (sensing false) ∷ []) t .controller)
-  seen-alike calls (n run-uses count) t = ap lastOf (every-program-agrees p m One (calls ++ run n (sensing false) ∷ []) t .answered)
-  seen-alike calls (n ticks-with tip ask asked) t = ap lastOf (every-program-agrees p m One (calls ++ advance n (sensing tip) ∷ []) t .answered)
+  seen-alike calls (n ticks place exact millionths) t = placed-alike (calls ++ advance n nothingSensed ∷ []) t
+  seen-alike calls (n run-uses count) t = ap lastOf (every-program-agrees p m One (calls ++ run n nothingSensed ∷ []) t .answered)
+  seen-alike calls (n ticks-with tip ask asked) t = ap lastOf (every-program-agrees p m One (calls ++ advance n (sensing tip (pos 0)) ∷ []) t .answered)
+  seen-alike calls (n ticks-at reading reach there exact millionths) t = placed-alike (calls ++ advance n (sensing false reading) ∷ []) t
 
   wrong-alike : (calls : List Call) (ls : List Line) → TakesScript p calls ls → wrongIn (program p) calls ls ≡ wrongIn definition calls ls
   unfolding wrongIn

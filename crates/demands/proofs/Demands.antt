@@ -2,7 +2,7 @@
 use mathlib.Core.Path.{_≡_, refl, sym, ap, _∙_}
 use mathlib.Core.List.{List}
 use mathlib.Core.Bool.{Bool, true, false}
-use Prim.Native.Nat.{ℕ, _+_, _-_, _≤_}
+use Prim.Native.Nat.{ℕ, _+_, _≤_}
 use native.Mathlib.Omega.{arith}
 use borrow.Author.Tests.{lt-ltb, le-ltb, ltb-false}
 use lib.Dec.{ltb}
@@ -22,7 +22,7 @@ use Rattle.line.specs.Answer.{statusOf, answerOf}
 use Rattle.line.proofs.Answers.{answer-fits}
 use Rattle.motion.specs.declared.Sense.{Sense}
 use Rattle.motion.specs.Events.{Turn}
-use Rattle.motion.specs.declared.Activity.the-variants.{Ejecting}
+use Rattle.motion.specs.declared.Activity.the-variants.{Approaching, Searching, Ejecting}
 use Rattle.buffer.specs.declared.course.State.the-variants.{Running}
 use Rattle.machine.specs.Step.{around, fine}
 use Rattle.machine.specs.Run.{usedOf}
@@ -30,7 +30,9 @@ use Rattle.machine.specs.Device.{tickOf, haltedOf, advanceOf, ranOf}
 use Rattle.machine.specs.declared.Used.{Used}
 use Rattle.machine.specs.declared.Used.the-variants.{Ticks, S3}
 use Rattle.machine.specs.History.{IsSum}
-use Rattle.machine.specs.OnCourse.{OnCourse, uninitialised, steep, outside, tipless, unready, still-there, taken, judged}
+use Rattle.level.specs.declared.Pressure.the-variants.{Beyond}
+use Rattle.motion.specs.Detect.{feltIn}
+use Rattle.machine.specs.OnCourse.{OnCourse, uninitialised, steep, outside, tipless, unready, still-there, taken, judged, unknown, no-way, no-zero, halted-move, too-much, no-liquid}
 use Rattle.machine.proofs.Runs.{count-within, not-ready-before, ready-after}
 use Rattle.machine.proofs.Position.{at-rest}
 use Rattle.machine.proofs.Failures.{a-run-meets-a-command, a-run-fails-for-a-cause, where-there-is-a-cause-the-run-fails, a-run-fails-exactly-for-a-cause}
@@ -55,7 +57,7 @@ use Rattle.frames.proofs.Reports.{q31-tells-the-tip}
 use Rattle.frames.proofs.Ticks.{a-tick-leaves-the-column-unless-the-run-fails, an-error-in-a-run-has-no-column}
 use Rattle.demands.specs.Calls.{Call, after}
 use Rattle.demands.specs.Values.{Handed, number, S, saidIs, givenIs, usedIs}
-use Rattle.demands.specs.Demands.{Counted, AsksWithin, Takes, CauseIn, Written, Answers, Makes, TotalityAndRefusals, Position, Moves}
+use Rattle.demands.specs.Demands.{Counted, AsksWithin, Takes, CauseIn, Written, Answers, Makes, TotalityAndRefusals, Position, Moves, FeelsFor, taking, moving-to-p2, searching, MissesIn}
 use Rattle.demands.proofs.Examples.{computed}
 use Rattle.demands.proofs.Frames.{a-frame-is-treated-by-the-table}
 use Rattle.demands.proofs.InHand.{every-controller-receives}
@@ -137,7 +139,13 @@ module _ (k : Controller) (s : Sense) (o : OnCourse (k .device)) where
       from why (taken c t (outside way v e i flat out)) q = absurd (omega arith)
       from why (taken c t (tipless e none)) q = (rw e at t, none)
       from why (taken c t (unready e i)) q = absurd (omega arith)
+      from why (taken c t (unknown here e i)) q = absurd (omega arith)
+      from why (taken c t (no-way here e i n)) q = absurd (omega arith)
+      from why (taken c t (no-zero here e i n f)) q = absurd (omega arith)
       from why (judged a is (still-there h)) q = absurd (omega arith)
+      from why (judged a is (halted-move t z f)) q = absurd (omega arith)
+      from why (judged a is (too-much f h)) q = absurd (omega arith)
+      from why (judged a is (no-liquid f h)) q = absurd (omega arith)
 
   eight : Exactly (verdictNumber failed ≡ 8) ((k .device .core .course .state ≡ Running Ejecting) × (s .tip ≡ true))
   eight = record { only = causes 8 (λ e. omega arith) from; always = λ h. numbered R.StillThere (judged Ejecting (h .0) (still-there (h .1))) }
@@ -148,7 +156,52 @@ module _ (k : Controller) (s : Sense) (o : OnCourse (k .device)) where
       from why (taken c t (outside way v e i flat out)) q = absurd (omega arith)
       from why (taken c t (tipless e none)) q = absurd (omega arith)
       from why (taken c t (unready e i)) q = absurd (omega arith)
+      from why (taken c t (unknown here e i)) q = absurd (omega arith)
+      from why (taken c t (no-way here e i n)) q = absurd (omega arith)
+      from why (taken c t (no-zero here e i n f)) q = absurd (omega arith)
       from why (judged a is (still-there h)) q = (is, h)
+      from why (judged a is (halted-move t z f)) q = absurd (omega arith)
+      from why (judged a is (too-much f h)) q = absurd (omega arith)
+      from why (judged a is (no-liquid f h)) q = absurd (omega arith)
+
+  five : Exactly (verdictNumber failed ≡ 5) (FeelsFor k × (feltIn s ≡ Beyond))
+  five = record { only = causes 5 (λ e. omega arith) from; always = λ h. numbered R.TooMuchPressure (to (h .0) (h .1)) }
+    where
+      from : (why : Refusal) → CauseIn s k why → refusalNumber why ≡ 5 → FeelsFor k × (feltIn s ≡ Beyond)
+      from why (taken c t (uninitialised way v e i)) q = absurd (omega arith)
+      from why (taken c t (steep way v e i h)) q = absurd (omega arith)
+      from why (taken c t (outside way v e i flat out)) q = absurd (omega arith)
+      from why (taken c t (tipless e none)) q = absurd (omega arith)
+      from why (taken c t (unready e i)) q = absurd (omega arith)
+      from why (taken c t (unknown here e i)) q = absurd (omega arith)
+      from why (taken c t (no-way here e i n)) q = absurd (omega arith)
+      from why (taken c t (no-zero here e i n f)) q = (taking here (rw e at t) i n, f)
+      from why (judged a is (still-there h)) q = absurd (omega arith)
+      from why (judged a is (halted-move t z f)) q = (moving-to-p2 t z is, f)
+      from why (judged a is (too-much f h)) q = (searching f is, h)
+      from why (judged a is (no-liquid f h)) q = absurd (omega arith)
+
+      to : FeelsFor k → feltIn s ≡ Beyond → CauseIn s k R.TooMuchPressure
+      to (taking here t i n) f = taken (C.Detect here) t (no-zero here refl i n f)
+      to (moving-to-p2 t z is) f = judged (Approaching t z) is (halted-move t z f)
+      to (searching x is) f = judged (Searching x) is (too-much x f)
+
+  six : Exactly (verdictNumber failed ≡ 6) (MissesIn s k)
+  six = record { only = causes 6 (λ e. omega arith) from; always = λ h. numbered R.NoLiquid (judged (Searching (h .search)) (h .searching) (no-liquid (h .search) (h .missed))) }
+    where
+      from : (why : Refusal) → CauseIn s k why → refusalNumber why ≡ 6 → MissesIn s k
+      from why (taken c t (uninitialised way v e i)) q = absurd (omega arith)
+      from why (taken c t (steep way v e i h)) q = absurd (omega arith)
+      from why (taken c t (outside way v e i flat out)) q = absurd (omega arith)
+      from why (taken c t (tipless e none)) q = absurd (omega arith)
+      from why (taken c t (unready e i)) q = absurd (omega arith)
+      from why (taken c t (unknown here e i)) q = absurd (omega arith)
+      from why (taken c t (no-way here e i n)) q = absurd (omega arith)
+      from why (taken c t (no-zero here e i n f)) q = absurd (omega arith)
+      from why (judged a is (still-there h)) q = absurd (omega arith)
+      from why (judged a is (halted-move t z f)) q = absurd (omega arith)
+      from why (judged a is (too-much f h)) q = absurd (omega arith)
+      from why (judged a is (no-liquid f h)) q = record { search = f; searching = is; missed = h }
 
 -- many ticks ask where one does
 asks-within : (k : Controller) (n : ℕ) (s : Sense) → Exactly (advancedOf n s k .news .eject ≡ true) (AsksWithin n s k)
@@ -178,6 +231,8 @@ every-controller-answers a calls =
       a-run-fails-for-a-cause = λ s doing is empty. a-run-fails-for-a-cause (k .device .text) s (k .device .core) doing is (sound .on-course) empty;
       a-run-fails-exactly-for-a-cause = λ s why. a-run-fails-exactly-for-a-cause (k .device .text) s (k .device .core) why (sound .on-course);
       ten-is-an-E0-without-a-tip = λ s. ten k s (sound .on-course);
+      five-is-a-reading-outside = λ s. five k s (sound .on-course);
+      six-is-a-search-without-a-find = λ s. six k s (sound .on-course);
       eight-is-a-tip-still-there = λ s. eight k s (sound .on-course);
       a-run-that-fails-leaves = λ s why cause. rw (where-there-is-a-cause-the-run-fails (k .device .text) s (k .device .core) why cause);
       the-host-is-asked-once-for-each-E = λ s. the-host-is-asked-for-each-E-taken-and-not-refused (k .device .text) s (k .device .core);
@@ -223,7 +278,7 @@ the-plunger-stands-where-its-history-says a calls =
       exact-is-the-sum = is;
       near-at-rest =
           λ still.
-          let near = rw (at-rest (c .course .state) (c .body .plunger) still) at (sound .told .near) in
+          let near = rw (at-rest (c .course .state) (c .body .plunger) (c .body .exact) still) at (sound .told .near) in
           record { above = omega (arith, near, is); below = omega (arith, near, is) };
     }
 

@@ -17,6 +17,10 @@ use Rattle.text.specs.Loops as TextLoops
 use Rattle.text.specs.Text as Text
 use Rattle.line.specs.Answer as LineAnswer
 use Rattle.line.specs.Wire as LineWire
+use lib.IntN.{pos, negsuc}
+use Rattle.motion.specs.Bodies.{plungerOf, nothingSensed}
+use Rattle.motion.specs.Detect as Detect
+use Rattle.level.specs.Level as Level
 use Rattle.motion.specs.Motion as Motion
 use Rattle.buffer.specs.Course as BufferCourse
 use Rattle.buffer.specs.Order as BufferOrder
@@ -32,7 +36,7 @@ use Rattle.pipettor.specs.declared.address.Address.the-variants.{One}
 use Rattle.demands.specs.Calls as Calls
 use Rattle.demands.specs.Calls.{Call, advance, after}
 use Rattle.demands.specs.Demands.{Moves}
-use Rattle.demands.specs.Script.{Line, _answers_, _ticks_exact_, _run-uses_, _ticks-with_ask_, sensing, definition, callsOf, seen, wrongIn, wrongOf}
+use Rattle.demands.specs.Script.{Line, _answers_, _ticks_exact_, _run-uses_, _ticks-with_ask_, _ticks-at_reach_exact_, definition, callsOf, seen, wrongIn, wrongOf}
 
 abbrev pub examples : List (List Line)
 examples =
@@ -88,6 +92,27 @@ examples =
     ∷ ("E1R" answers "@" ∷ 1 ticks-with true ask false ∷ "Q" answers "g" ∷ "WE1A5R" answers "@" ∷ 2 ticks-with true ask true ∷ "T" answers "`" ∷ "R" answers "@" ∷ 2 ticks-with true ask false ∷ "?1" answers "`5" ∷ "!R" answers "`" ∷ "?31" answers "`1" ∷ [])
     -- a run and many ticks say whether any of them asked
     ∷ ("WA100E1A0R" answers "@" ∷ 60 ticks-with false ask true ∷ "Q" answers "`" ∷ "X" answers "@" ∷ 2 ticks-with false ask false ∷ [])
+    -- 02, W-206, "Liquid level detection": p0 to p6 are set, reported and reset
+    ∷ ("p0,20p1,30p2,3000p3,200p4,1000p5,1p6,5R" answers "@" ∷ 7 ticks 0 exact 0 ∷ "?32" answers "`20" ∷ "?33" answers "`30" ∷ "?34" answers "`3000" ∷ "?35" answers "`200.0" ∷ "?36" answers "`1000" ∷ "?37" answers "`1" ∷ "?38" answers "`5" ∷ "!R" answers "`" ∷ "?32" answers "`15" ∷ "?33" answers "`5" ∷ "?34" answers "`0" ∷ "?35" answers "`150.0" ∷ "?36" answers "`44000" ∷ "?37" answers "`0" ∷ "?38" answers "`20" ∷ [])
+    -- ten times the count at p1 is a find, just below it is none; the zero is the reading of the tick that takes B; B ends as any command ends
+    ∷ ("Wp1,30B1P2R" answers "@" ∷ 3 ticks-at pos 5 reach 0 exact 0 ∷ 2 ticks-at pos 21 reach 3 exact 0 ∷ "Q" answers "@" ∷ 1 ticks-at pos 21 reach 4 exact 4000000 ∷ 2 ticks 6 exact 6000000 ∷ "Q" answers "`" ∷ [])
+    -- "further than p0": 15 away is not; "any other sets the count to 0"
+    ∷ ("Wp1,30B1R" answers "@" ∷ 3 ticks-at pos 5 reach 0 exact 0 ∷ 2 ticks-at pos 20 reach 3 exact 0 ∷ 2 ticks-at negsuc 10 reach 6 exact 0 ∷ 1 ticks-at pos 5 reach 7 exact 0 ∷ 2 ticks-at negsuc 10 reach 10 exact 0 ∷ "Q" answers "@" ∷ 1 ticks-at negsuc 10 reach 12 exact 12000000 ∷ "Q" answers "`" ∷ [])
+    -- found and p4 in one tick is a find; without one it is 6
+    ∷ ("Wp4,500p3,1000p1,10B1R" answers "@" ∷ 54 ticks-at pos 0 reach 490 exact 0 ∷ 1 ticks-at pos 16 reach 500 exact 500000000 ∷ "Q" answers "`" ∷ [])
+    ∷ ("Wp4,500p3,1000p1,10B1R" answers "@" ∷ 54 ticks-at pos 0 reach 490 exact 0 ∷ 1 ticks-at pos 15 reach 500 exact 500000000 ∷ "Q" answers "f" ∷ "?67" answers "f0" ∷ [])
+    -- no way to go: judged in the first tick, found or 6
+    ∷ ("Wp5,1p2,1B1R" answers "@" ∷ 4 ticks-at pos 0 reach 0 exact 0 ∷ "Q" answers "@" ∷ 1 ticks-at pos 0 reach 0 exact 0 ∷ "Q" answers "f" ∷ "B1R" answers "@" ∷ 1 ticks-at pos 0 reach 0 exact 0 ∷ 1 ticks-at negsuc 15 reach 0 exact 0 ∷ "Q" answers "`" ∷ [])
+    -- "or the end of travel": ten increments are left
+    ∷ ("WV80000A43990B1R" answers "@" ∷ 59 ticks 43990 exact 43990000000 ∷ 6 ticks-at pos 0 reach 43999 exact 43990000000 ∷ "Q" answers "@" ∷ 1 ticks-at pos 0 reach 44000 exact 44000000000 ∷ "Q" answers "f" ∷ [])
+    -- "or dispenses (1)"
+    ∷ ("Wp5,1p2,100BR" answers "@" ∷ 6 ticks-at pos 0 reach 100 exact 100000000 ∷ 3 ticks-at pos 0 reach 96 exact 100000000 ∷ 1 ticks-at pos 16 reach 94 exact 94000000 ∷ "Q" answers "`" ∷ [])
+    -- "in this order, 7 uninitialised, 3 for p5 of 1 with p2 of 0, 5 for a reading outside -32767 to 32767"
+    ∷ ("p5,1BR" answers "@" ∷ 2 ticks-at pos 32768 reach 0 exact 0 ∷ "Q" answers "g" ∷ "Wp5,1B1R" answers "@" ∷ 3 ticks-at pos 32768 reach 0 exact 0 ∷ "Q" answers "c" ∷ "p5B1R" answers "@" ∷ 2 ticks-at pos 32768 reach 0 exact 0 ∷ "Q" answers "e" ∷ "B1R" answers "@" ∷ 1 ticks-at negsuc 32766 reach 0 exact 0 ∷ 1 ticks-at negsuc 32767 reach 1 exact 1000000 ∷ "Q" answers "e" ∷ [])
+    -- "B0 first moves to p2 at V": the exact position is p2, and a 5 there starts it at the plunger
+    ∷ ("Wp2,3000BR" answers "@" ∷ 3 ticks-at pos 32767 reach 0 exact 3000000000 ∷ "?0" answers "@3000" ∷ 1 ticks-at negsuc 32766 reach 80 exact 3000000000 ∷ 1 ticks-at negsuc 32767 reach 160 exact 160000000 ∷ "Q" answers "e" ∷ "?67" answers "e0" ∷ [])
+    -- the search begins in the tick after the one in which the move arrives; ?0 is then the plunger; "T cuts a search like any movement"
+    ∷ ("Wp2,100BP100R" answers "@" ∷ 5 ticks-at pos 0 reach 100 exact 100000000 ∷ "?0" answers "@100" ∷ 3 ticks-at pos 0 reach 104 exact 100000000 ∷ "?0" answers "@104" ∷ "P1R" answers "O" ∷ "T" answers "`" ∷ "?1" answers "`104" ∷ "R" answers "@" ∷ 3 ticks 204 exact 204000000 ∷ [])
     ∷ []
 
 -- 01, "Errors a class makes, and so may a program"
@@ -119,8 +144,8 @@ impostors =
 -- W, b, A, P, D, T in a delay, a movement that is cut, and a reset
 abbrev moved : List Call
 moved =
-    callsOf ("Wb350A10P0.5,1D0.2,1M1000R" answers "@") ++ advance 20 (sensing false) ∷ callsOf ("T" answers "`") ++
-    callsOf ("A44000R" answers "@") ++ advance 3 (sensing false) ∷ callsOf ("T" answers "`") ++ callsOf ("!R" answers "`")
+    callsOf ("Wb350A10P0.5,1D0.2,1M1000R" answers "@") ++ advance 20 nothingSensed ∷ callsOf ("T" answers "`") ++
+    callsOf ("A44000R" answers "@") ++ advance 3 nothingSensed ∷ callsOf ("T" answers "`") ++ callsOf ("!R" answers "`")
 
 pub record Computed : Type 0 where
   pub the-examples-hold : wrongOf definition examples ≡ []
@@ -130,7 +155,7 @@ pub record Computed : Type 0 where
 
 -- opened: every definition on the way of a byte or a tick, so that rows can be added freely
 pub computed : Computed
-unfolding BasicsBytes.digit BasicsBytes.every BasicsBytes.valueOf BasicsLay.over BasicsLay.fits BasicsLay.laidIn DecimalDigits.lastDigits DecimalDigits.trim DecimalDigits.digitsOf DecimalDigits.fixedOf SettingsLimits.within SettingsUnits.nearest SettingsUnits.tenthsOf SettingsUnits.flowOf SettingsUnits.ticksOf SettingsUnits.rateOf SettingsUnits.millionthsOf SettingsUnits.goalOf SettingsUnits.nanolitresOf SettingsUnits.goneOf OperandNumber.digits OperandNumber.decimalsOf OperandNumber.followedOf OperandNumber.numberOf OperandNumber.behindComma OperandNumber.pairOf OperandText.run OperandText.rest Command.placed Command.foundIn Command.commandAt CommandTable.letterOf CommandTable.allowed CommandTable.takenOf CommandTable.wholeOf CommandTable.nanolitresOf CommandTable.speedOf CommandTable.inTenths CommandTable.flowOf CommandTable.made CommandTable.both CommandTable.inUnit CommandTable.volumeOf CommandTable.pacedOf CommandTable.slopesOf CommandTable.compensationOf CommandTable.commandOf TextData.spaceless TextData.askedOf TextData.body TextData.runs TextData.stringOf TextData.controlOf TextData.dataOf TextLoops.levelOf TextLoops.levels TextLoops.loopsOk Text.readFrom Text.readOf Text.checkOf LineAnswer.statusOf LineAnswer.reportOf LineAnswer.answerOf LineWire.printable LineWire.endOf LineWire.takeOf LineWire.hearOf LineWire.keepOf Motion.plungerOf Motion.homeOf Motion.within Motion.targetOf Motion.setOut Motion.aimed Motion.moveOf Motion.delayOf Motion.ejectOf Motion.waitedOf Motion.ejectedOf Motion.effectOf Motion.carried Motion.onwardOf Motion.cutOf Motion.resetOf Motion.freshBody BufferOrder.cellOf BufferOrder.loopsBy BufferOrder.sized BufferOrder.verdictOf BufferCourse.halted MachineAct.haltOf MachineAct.stopOf MachineAct.changedOf MachineAct.doneOf BufferOrder.laidBy BufferOrder.storedBy MachineAct.actedOf MachineAct.actOf BufferCourse.passOf BufferCourse.reached BufferCourse.openedOf BufferCourse.closedBy BufferCourse.closedOf MachineDevice.freshOf MachineDevice.tickOf MachineDevice.advanceOf MachineRun.ticksOf MachineStep.appliedOf MachineStep.takenOf MachineStep.carriedOn MachineStep.runningOf MachineStep.activeOf MachineStep.stepOf MachineStep.nextOf PipettorByte.fetchedOf PipettorByte.squeezedIn PipettorByte.gotOf PipettorByte.squeezedOf PipettorByte.taskOf PipettorByte.performedOf PipettorByte.outcomeOf PipettorByte.saidOf PipettorByte.writtenOf PipettorByte.dealtOf PipettorByte.heardOf PipettorByte.byteOf PipettorController.madeOf PipettorController.advancedOf Reports.goalIn Reports.settingOf Reports.valueOf Reports.queryOf Reports.tellOf Calls.callOf Calls.answerOf Calls.afterOf Calls.answersOf Calls.answers MachineDevice.ranOf MachineRun.usedOf PipettorController.runOf seen wrongIn wrongOf Calls.ticksEvents Calls.eventsOf Calls.after Calls.history History.callOf History.eventsOf
+unfolding BasicsBytes.digit BasicsBytes.every BasicsBytes.valueOf BasicsLay.over BasicsLay.fits BasicsLay.laidIn DecimalDigits.lastDigits DecimalDigits.trim DecimalDigits.digitsOf DecimalDigits.fixedOf SettingsLimits.within SettingsUnits.nearest SettingsUnits.tenthsOf SettingsUnits.flowOf SettingsUnits.ticksOf SettingsUnits.rateOf SettingsUnits.millionthsOf SettingsUnits.goalOf SettingsUnits.nanolitresOf SettingsUnits.goneOf OperandNumber.digits OperandNumber.decimalsOf OperandNumber.followedOf OperandNumber.numberOf OperandNumber.behindComma OperandNumber.pairOf OperandText.run OperandText.rest Command.placed Command.foundIn Command.commandAt CommandTable.letterOf CommandTable.allowed CommandTable.takenOf CommandTable.wholeOf CommandTable.nanolitresOf CommandTable.speedOf CommandTable.inTenths CommandTable.flowOf CommandTable.made CommandTable.both CommandTable.inUnit CommandTable.volumeOf CommandTable.pacedOf CommandTable.slopesOf CommandTable.compensationOf CommandTable.rowAt CommandTable.rowOf CommandTable.detailOf CommandTable.setBy CommandTable.aspectOf CommandTable.commandOf TextData.spaceless TextData.askedOf TextData.body TextData.runs TextData.stringOf TextData.controlOf TextData.dataOf TextLoops.levelOf TextLoops.levels TextLoops.loopsOk Text.readFrom Text.readOf Text.checkOf LineAnswer.statusOf LineAnswer.reportOf LineAnswer.answerOf LineWire.printable LineWire.endOf LineWire.takeOf LineWire.hearOf LineWire.keepOf plungerOf Level.pressureOf Level.apart Level.leftOf Level.limitOf Level.goneIn Level.plungerIn Level.far Level.countWith Level.countedAs Level.findingOf Level.soughtOf Detect.approachOf Detect.zeroedOf Detect.noWayDown Detect.detectOf Detect.approachedOf Detect.foundAs Detect.searchedOf Motion.homeOf Motion.within Motion.targetOf Motion.setOut Motion.aimed Motion.moveOf Motion.delayOf Motion.ejectOf Motion.waitedOf Motion.ejectedOf Motion.effectOf Motion.carried Motion.onwardOf Motion.cutOf Motion.resetOf Motion.freshBody BufferOrder.cellOf BufferOrder.loopsBy BufferOrder.sized BufferOrder.verdictOf BufferCourse.halted MachineAct.haltOf MachineAct.stopOf MachineAct.changedOf MachineAct.doneOf BufferOrder.laidBy BufferOrder.storedBy MachineAct.actedOf MachineAct.actOf BufferCourse.passOf BufferCourse.reached BufferCourse.openedOf BufferCourse.closedBy BufferCourse.closedOf MachineDevice.freshOf MachineDevice.tickOf MachineDevice.advanceOf MachineRun.ticksOf MachineStep.appliedOf MachineStep.takenOf MachineStep.carriedOn MachineStep.runningOf MachineStep.activeOf MachineStep.stepOf MachineStep.nextOf PipettorByte.fetchedOf PipettorByte.squeezedIn PipettorByte.gotOf PipettorByte.squeezedOf PipettorByte.taskOf PipettorByte.performedOf PipettorByte.outcomeOf PipettorByte.saidOf PipettorByte.writtenOf PipettorByte.dealtOf PipettorByte.heardOf PipettorByte.byteOf PipettorController.madeOf PipettorController.advancedOf Reports.goalIn Reports.settingOf Reports.aspectIn Reports.valueOf Reports.queryOf Reports.tellOf Calls.callOf Calls.answerOf Calls.afterOf Calls.answersOf Calls.answers MachineDevice.ranOf MachineRun.usedOf PipettorController.runOf seen wrongIn wrongOf Calls.ticksEvents Calls.eventsOf Calls.after Calls.history History.callOf History.eventsOf
 computed = record {
   the-examples-hold = refl;
   no-mistake-is-made = refl;

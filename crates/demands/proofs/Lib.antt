@@ -15,3 +15,5 @@ pub mod Records
 pub mod Parts
 pub mod OneLine
 pub mod Tips
+pub mod Beginnings
+pub mod Searches

@@ -1,6 +1,6 @@
 -- Every line gets exactly one line back: what a line prints holds no LF, and ends with one.
 use mathlib.Core.Path.{_≡_, refl, sym, ap, _∙_}
-use mathlib.Core.Bool.{Bool, true, false, not, _&&_}
+use mathlib.Core.Bool.{Bool, true, false, _&&_}
 use mathlib.Core.List.{List, [], _∷_, _++_, append-assoc}
 use Prim.Native.Nat.{ℕ, zero, suc, _+_, _-_, _/_, _%_, _^_, _≤_, _<_}
 use native.Mathlib.Omega.{arith}
@@ -8,7 +8,6 @@ use borrow.Author.Tests.{ne-eqb, le-leb, ltb-false}
 use lib.Dec.{eqb, leb, ltb}
 use lib.ListN.{length, take, drop, length-append}
 use lib.Seq.{take-at}
-use Rattle.basics.specs.Choice.{if_then_else_}
 use Rattle.basics.specs.Bytes.{chars, point, digit, every}
 use Rattle.basics.specs.Lay.{over}
 use Rattle.basics.proofs.Choice.{by}
@@ -25,6 +24,7 @@ use Rattle.text.specs.declared.Question.{Question}
 use Rattle.text.specs.declared.Question.the-variants as Q
 use Rattle.text.specs.declared.Control.{Control}
 use Rattle.text.specs.declared.Data.the-variants as D
+use Rattle.settings.specs.declared.Detection.{Detection}
 use Rattle.settings.specs.declared.Settings.{Settings}
 use Rattle.motion.specs.declared.Body.{Body}
 use Rattle.motion.specs.Events.{Turn}
@@ -36,7 +36,7 @@ use Rattle.machine.specs.declared.Used.{Used}
 use Rattle.machine.specs.declared.Used.the-variants as U
 use Rattle.reports.specs.declared.Told.{Told}
 use Rattle.reports.specs.declared.Told.the-variants.{Says, No}
-use Rattle.reports.specs.Reports.{settingOf, valueOf, queryOf, tellOf}
+use Rattle.reports.specs.Reports.{settingOf, aspectIn, valueOf, queryOf, tellOf}
 use Rattle.pipettor.specs.declared.address.Address.{Address}
 use Rattle.pipettor.specs.declared.address.Address.the-variants.{One, Two, Three, Four, Five, Six, Seven, Eight, Nine}
 use Rattle.pipettor.specs.declared.address.Given.{Given}
@@ -51,7 +51,7 @@ use Rattle.pipettor.specs.declared.Said.the-variants.{Silent, Answer, S1}
 use Rattle.pipettor.specs.Address.{letterOf, addressOf}
 use Rattle.pipettor.specs.Byte.{toldCode, toldOf, outcomeOf, saidOf, writtenOf, After, dealtOf, heardOf, byteOf}
 use Rattle.desk.specs.declared.Quantity.{Quantity}
-use Rattle.desk.specs.declared.Quantity.the-variants.{Ticks, Run, Lend, New, Tip}
+use Rattle.desk.specs.declared.Quantity.the-variants.{Ticks, Run, Lend, New, Tip, Press, Minus}
 use Rattle.desk.specs.declared.Asked.{Asked}
 use Rattle.desk.specs.declared.Asked.the-variants as A
 use Rattle.desk.specs.Desk.{askedOf}
@@ -59,7 +59,7 @@ use Rattle.desk.specs.Hex.{bytesIn}
 use Rattle.line.proofs.Answers.{answer-fits}
 use Rattle.station.specs.declared.Station.{Station}
 use Rattle.station.specs.Serve as Serve
-use Rattle.station.specs.Serve.{Served, endedOf, goneOn, sentBy, sentOf, placedOf, usedUp, madeBy, numberedOf, silent, saidTo, rawByte, rawFrom, closed, rawOf, didOf, servedOf}
+use Rattle.station.specs.Serve.{Served, endedOf, goneOn, sentBy, sentOf, placedOf, usedUp, madeBy, sensedOf, numberedOf, silent, saidTo, rawByte, rawFrom, rawOf, didOf, servedOf}
 use Rattle.printing.specs.Print.{ended, shownOf, lastOf, placeOf, usedOf, barOf, addedOf, closeOf, noLf, OneLine}
 
 -- a byte of at least 11 is no LF
@@ -119,6 +119,17 @@ setting-plain n s =
     by PlainTold (eqb n 19) (λ _. tt) (λ _.
     by PlainTold (eqb n 20) (λ _. tt) (λ _. tt)))))))))))
 
+aspect-plain : (n : ℕ) (d : Detection) → PlainTold (aspectIn n d)
+unfolding aspectIn
+aspect-plain n d =
+    by PlainTold (eqb n 32) (λ _. tt) (λ _.
+    by PlainTold (eqb n 33) (λ _. tt) (λ _.
+    by PlainTold (eqb n 34) (λ _. tt) (λ _.
+    by PlainTold (eqb n 35) (λ _. tt) (λ _.
+    by PlainTold (eqb n 36) (λ _. tt) (λ _.
+    by PlainTold (eqb n 37) (λ _. tt) (λ _.
+    by PlainTold (eqb n 38) (λ _. tt) (λ _. tt)))))))
+
 value-plain : (n : ℕ) (tip : Bool) (b : Body) (s : State) → PlainTold (valueOf n tip b s)
 unfolding valueOf
 value-plain n tip b s =
@@ -128,7 +139,8 @@ value-plain n tip b s =
     by PlainTold (leb 4 n && leb n 20) (λ _. setting-plain n (b .settings)) (λ _.
     by PlainTold (eqb n 29) (λ _. tt) (λ _.
     by PlainTold (eqb n 31) (λ _. tt) (λ _.
-    by PlainTold (eqb n 67) (λ _. tt) (λ _. tt)))))))
+    by PlainTold (leb 32 n && leb n 38) (λ _. aspect-plain n (b .settings .detection)) (λ _.
+    by PlainTold (eqb n 67) (λ _. tt) (λ _. tt))))))))
 
 tell-plain : (q : Question) (ours : ℕ) (tip : Bool) (b : Body) (c : Course) → 10 < ours → PlainTold (tellOf q ours tip b c)
 unfolding tellOf queryOf
@@ -279,12 +291,14 @@ made (Is a) s = one-line (chars "ok") refl
 made S2 s = one-line (chars "S2") refl
 
 numbered : (q : Quantity) (n : ℕ) (s : Station) → OneLine (numberedOf q n s .text)
-unfolding numberedOf placedOf usedUp every
+unfolding numberedOf placedOf usedUp sensedOf every
 numbered Ticks n s = placed _ _ _
 numbered Run n s = used _ _ _ _
 numbered Lend n s = one-line (chars "ok") refl
 numbered New n s = made (addressOf n) s
 numbered Tip n s = one-line (chars "ok") refl
+numbered Press n s = one-line (chars "ok") refl
+numbered Minus n s = one-line (chars "ok") refl
 
 did : (a : Asked) (line : List ℕ) (s : Station) → OneLine (didOf a line s .text)
 unfolding didOf sentOf placedOf rawOf every

@@ -1,8 +1,8 @@
 -- What each call adds to the history: `specs/Records`, proved of every controller.
 use mathlib.Core.Path.{_≡_, refl, sym, ap, _∙_}
-use mathlib.Core.Bool.{true, false, false≢true}
+use mathlib.Core.Bool.{Bool, true, false, true≢false, false≢true}
 use mathlib.Core.List.{List, [], _∷_}
-use Prim.Native.Nat.{ℕ}
+use Prim.Native.Nat.{ℕ, _*_}
 use native.Mathlib.Omega.{arith}
 use borrow.Author.Tests.{lt-ltb, le-ltb}
 use lib.Dec.{ltb}
@@ -15,20 +15,32 @@ use Rattle.command.specs.declared.Way.the-variants.{To}
 use Rattle.command.specs.declared.Command.{Command}
 use Rattle.command.specs.declared.Command.the-variants as C
 use Rattle.text.specs.Data.{spaceless, controlOf, dataOf, receivedOf}
+use Rattle.level.specs.declared.Pressure.{Pressure}
+use Rattle.level.specs.declared.Pressure.the-variants.{Counts}
+use Rattle.level.specs.declared.Finding.{Finding}
+use Rattle.level.specs.Level.{soughtOf}
 use Rattle.motion.specs.declared.Sense.{Sense}
-use Rattle.motion.specs.declared.Activity.the-variants.{Initialising, Moving, Delaying, Ejecting, Between}
+use Rattle.motion.specs.declared.Body.{Body}
+use Rattle.motion.specs.declared.Travel.{Travel}
+use Rattle.motion.specs.declared.Effect.{Effect}
+use Rattle.motion.specs.declared.Effect.the-variants.{Ends}
+use Rattle.motion.specs.declared.Activity.the-variants.{Initialising, Moving, Delaying, Approaching, Searching, Ejecting, Between}
 use Rattle.motion.specs.declared.Target.{Target}
 use Rattle.motion.specs.declared.Target.the-variants.{At, Outside}
-use Rattle.motion.specs.Events.{start}
+use Rattle.motion.specs.Events.{start, Turn}
+use Rattle.motion.specs.Bodies.{laterOf, plungerOf, bodyAt}
+use Rattle.motion.specs.Detect.{feltIn, placeFor, zeroedOf, detectOf, endsHere, approachedOf, foundAs, searchedOf}
+use Rattle.motion.proofs.Moves.{approached-by, found-by}
 use Rattle.motion.specs.Motion.{within, targetOf, eventOf, homeOf, aimed, moveOf, effectOf, onwardOf, cutOf, resetOf, freshBody}
 use Rattle.buffer.specs.declared.course.State.{State}
 use Rattle.buffer.specs.declared.course.State.the-variants.{Empty, Stored, Running, Stopped, Done}
+use Rattle.buffer.specs.Course.{reached}
 use Rattle.buffer.specs.Order.{cellOf, loopsBy, verdictOf}
-use Rattle.machine.specs.Step.{takenOf, carriedOn, runningOf, activeOf, stepOf, around}
+use Rattle.machine.specs.Step.{appliedOf, takenOf, carriedOn, runningOf, activeOf, stepOf, around}
 use Rattle.machine.specs.Act.{haltOf, stopOf, changedOf, doneOf, actedOf, actOf}
 use Rattle.machine.specs.Device.{freshOf, tickOf, haltedOf}
 use Rattle.machine.specs.History.{moving}
-use Rattle.machine.specs.OnCourse.{Failing, uninitialised, steep, outside, tipless, unready}
+use Rattle.machine.specs.OnCourse.{Failing, uninitialised, steep, outside, tipless, unready, unknown, no-way, no-zero}
 use Rattle.pipettor.specs.declared.address.Address.{Address}
 use Rattle.pipettor.specs.declared.Controller.{Controller}
 use Rattle.pipettor.specs.Byte.{taskOf, performedOf, dealtOf}
@@ -37,7 +49,7 @@ use Rattle.frames.specs.Frame.{exchangeOf}
 use Rattle.frames.proofs.Controls.{every-frame-but-T-and-reset-adds-nothing}
 use Rattle.demands.specs.Calls.{eventsOf, after, history}
 use Rattle.demands.specs.Demands.{Takes}
-use Rattle.demands.specs.Records.{asked, CarriedOut, MovesNothing, plungerAt, Records, Recording}
+use Rattle.demands.specs.Records.{asked, CarriedOut, Detects, detecting, MovesNothing, plungerAt, Records, Recording}
 
 -- a place within travel is the place asked for
 place : Target → ℕ
@@ -69,12 +81,15 @@ module _ (s : Sense) (k : Controller) where
   to-the-place v c = within-is (asked k v) (c .exact) (c .within)
 
   failing-adds : (command : Command) (why : Refusal) → Failing s command (k .device .core .body) why → effectOf s command (k .device .core .body) .events ≡ []
-  unfolding effectOf moveOf aimed
+  unfolding effectOf moveOf aimed detectOf zeroedOf
   failing-adds command why (uninitialised way v e i) = rw (e, i)
   failing-adds command why (steep way v e i s) = rw (e, i, lt-ltb (k .device .core .body .settings .top) (k .device .core .body .settings .start) s)
   failing-adds command why (outside way v e i flat out) = rw (e, i, le-ltb (k .device .core .body .settings .top) (k .device .core .body .settings .start) flat, out)
   failing-adds command why (tipless e t) = rw e
   failing-adds command why (unready e i) = rw e
+  failing-adds command why (unknown here e i) = rw (e, i)
+  failing-adds command why (no-way here e i n) = rw (e, i, n)
+  failing-adds command why (no-zero here e i n f) = rw (e, i, n, f)
 
   others-add : (command : Command) → MovesNothing command → effectOf s command (k .device .core .body) .events ≡ []
   unfolding effectOf
@@ -85,21 +100,80 @@ module _ (s : Sense) (k : Controller) where
   others-add (C.Backlash n) h = refl
   others-add (C.Compensate n down) h = refl
   others-add (C.Delay ms) h = refl
+  others-add (C.Set a n) h = refl
+  others-add (C.Detect here) h = absurd h
   others-add (C.Eject bare) h = refl
   others-add C.Open h = refl
   others-add (C.Close n) h = refl
 
-  idle-adds : (x : State) → (x ≡ Running Between → ⊥) → activeOf x (around (k .device .text) s) (k .device .core) .events ≡ []
+  idle-adds : (x : State) → (x ≡ Running Between → ⊥) → detecting x ≡ false → activeOf x (around (k .device .text) s) (k .device .core) .events ≡ []
   unfolding activeOf runningOf carriedOn onwardOf
-  idle-adds (Running (Initialising t)) h = refl
-  idle-adds (Running (Moving t)) h = refl
-  idle-adds (Running (Delaying n)) h = refl
-  idle-adds (Running Ejecting) h = refl
-  idle-adds (Running Between) h = absurd (h refl)
-  idle-adds Empty h = refl
-  idle-adds Stored h = refl
-  idle-adds Stopped h = refl
-  idle-adds Done h = refl
+  idle-adds (Running (Initialising t)) h n = refl
+  idle-adds (Running (Moving t)) h n = refl
+  idle-adds (Running (Delaying j)) h n = refl
+  idle-adds (Running (Approaching t z)) h n = absurd (true≢false n)
+  idle-adds (Running (Searching f)) h n = absurd (true≢false n)
+  idle-adds (Running Ejecting) h n = refl
+  idle-adds (Running Between) h n = absurd (h refl)
+  idle-adds Empty h n = refl
+  idle-adds Stored h n = refl
+  idle-adds Stopped h n = refl
+  idle-adds Done h n = refl
+
+  -- B
+  detect-adds : (here : Bool) (d : Detects s k here) → tickedOf s k .events ≡ zeroedOf here (Counts (d .z)) (k .device .core .body) .events
+  unfolding effectOf detectOf
+  detect-adds here d = taking (C.Detect here) (d .takes) ∙ rw (d .initialised, d .way, d .reading)
+
+  zeroed-false : (z : ℕ) → zeroedOf false (Counts z) (k .device .core .body) .events ≡ start (placeFor (k .device .core .body)) ∷ []
+  unfolding zeroedOf
+  zeroed-false z = refl
+
+  zeroed-true : (z : ℕ) → zeroedOf true (Counts z) (k .device .core .body) .events ≡ []
+  unfolding zeroedOf
+  zeroed-true z = refl
+
+  -- a tick of B: it goes on and adds nothing, or ends at the plunger
+  abbrev Adds : Turn Effect → Type 0
+  Adds e =
+      let left = appliedOf (e .next) (k .device .core .course .at) (k .device .core) .core in
+      (detecting (left .course .state) ≡ true → e .events ≡ []) × (detecting (left .course .state) ≡ false → e .events ≡ start (left .body .plunger * 1000000) ∷ [])
+
+  ends-adds : (b : Body) → Adds (endsHere Ends b)
+  unfolding appliedOf reached
+  ends-adds b =
+      by (λ (x : State). (detecting x ≡ true → start (b .plunger * 1000000) ∷ [] ≡ []) × (detecting x ≡ false → start (b .plunger * 1000000) ∷ [] ≡ start (b .plunger * 1000000) ∷ []))
+      (ltb (k .device .core .course .at) (k .device .core .course .len))
+      (λ _. ((λ h. absurd (false≢true h)), (λ h. refl)))
+      (λ _. ((λ h. absurd (false≢true h)), (λ h. refl)))
+
+  approached-adds : (p : Pressure) (t : Travel) (z : ℕ) (b : Body) → Adds (approachedOf p t z b)
+  unfolding appliedOf
+  approached-adds p t z b =
+      approached-by Adds p t z b ((λ h. absurd (false≢true h)), (λ h. refl)) ((λ h. refl), (λ h. absurd (true≢false h))) ((λ h. refl), (λ h. absurd (true≢false h)))
+
+  found-adds : (f : Finding) (b : Body) → Adds (foundAs f b)
+  unfolding appliedOf
+  found-adds f b = found-by Adds b (ends-adds b) (λ why. ((λ h. absurd (false≢true h)), (λ h. refl))) (λ x. ((λ h. refl), (λ h. absurd (true≢false h)))) f
+
+  abbrev AddsIn : State → Type 0
+  AddsIn x =
+      let t = activeOf x (around (k .device .text) s) (k .device .core) in
+      (detecting (t .next .core .course .state) ≡ true → t .events ≡ []) × (detecting (t .next .core .course .state) ≡ false → t .events ≡ start (t .next .core .body .plunger * 1000000) ∷ [])
+
+  B-adds : (x : State) → detecting x ≡ true → AddsIn x
+  unfolding activeOf runningOf carriedOn onwardOf searchedOf
+  B-adds (Running (Initialising t)) h = absurd (false≢true h)
+  B-adds (Running (Moving t)) h = absurd (false≢true h)
+  B-adds (Running (Delaying n)) h = absurd (false≢true h)
+  B-adds (Running (Approaching t z)) h = approached-adds (feltIn s) (laterOf t) z (bodyAt (plungerOf (laterOf t)) (k .device .core .body))
+  B-adds (Running (Searching f)) h = let t = soughtOf (k .device .core .body .settings .detection) f (feltIn s) in found-adds (t .finding) (bodyAt (t .plunger) (k .device .core .body))
+  B-adds (Running Ejecting) h = absurd (false≢true h)
+  B-adds (Running Between) h = absurd (false≢true h)
+  B-adds Empty h = absurd (false≢true h)
+  B-adds Stored h = absurd (false≢true h)
+  B-adds Stopped h = absurd (false≢true h)
+  B-adds Done h = absurd (false≢true h)
 
   cut-adds : (x : State) → moving x ≡ true → haltOf x (k .device .core) .events ≡ start (plungerAt k) ∷ []
   unfolding haltOf cutOf
@@ -138,7 +212,11 @@ module _ (s : Sense) (k : Controller) where
     D-takes-its-volume-away = λ v c. moving-adds _ v c;
     a-command-that-fails-adds-nothing = λ command why t h. taking command t ∙ failing-adds command why h;
     any-other-command-adds-nothing = λ command t h. taking command t ∙ others-add command h;
-    a-tick-that-takes-no-command-adds-nothing = λ h. idle-adds (k .device .core .course .state) h;
+    B0-starts-it-at-p2 = λ d. detect-adds false d ∙ zeroed-false (d .z);
+    B1-adds-nothing = λ d. detect-adds true d ∙ zeroed-true (d .z);
+    B-that-goes-on-adds-nothing = λ h. B-adds (k .device .core .course .state) h .0;
+    the-end-of-B-starts-it-at-the-plunger = λ h. B-adds (k .device .core .course .state) h .1;
+    any-other-tick-that-takes-no-command-adds-nothing = λ h. idle-adds (k .device .core .course .state) h;
     a-cut-starts-it-at-the-plunger = λ h. cut-adds (k .device .core .course .state) h;
     a-stop-without-movement-adds-nothing = λ h. still-adds (k .device .core .course .state) h;
     T-stops = T-adds;

@@ -9,7 +9,6 @@ use lib.ListN.{length, take, getD}
 use Rattle.basics.specs.Choice.{if_then_else_}
 use Rattle.basics.specs.Bytes.{every}
 use Rattle.basics.specs.Lay.{over}
-use Rattle.basics.proofs.Choice.{by}
 use Rattle.command.specs.declared.refusal.Refusal.{Refusal}
 use Rattle.command.specs.declared.refusal.Refusal.the-variants as R
 use Rattle.command.specs.declared.refusal.Verdict.the-variants.{Fine, Refused}
@@ -22,7 +21,7 @@ use Rattle.line.specs.Answer.{statusOf}
 use Rattle.line.proofs.Answers.{status-bits}
 use Rattle.motion.specs.declared.Sense.{Sense}
 use Rattle.motion.specs.declared.Activity.{Activity}
-use Rattle.motion.specs.declared.Activity.the-variants.{Initialising, Moving, Delaying, Ejecting, Between}
+use Rattle.motion.specs.declared.Activity.the-variants.{Initialising, Moving, Delaying, Approaching, Searching, Ejecting, Between}
 use Rattle.motion.specs.Events.{Turn}
 use Rattle.buffer.specs.declared.course.State.{State}
 use Rattle.buffer.specs.declared.course.State.the-variants.{Empty, Stored, Running, Stopped, Done}
@@ -44,7 +43,7 @@ use Rattle.machine.specs.Refusals as Buffer
 use Rattle.machine.specs.Refusals.{verdictFor}
 use Rattle.machine.specs.Act.{doneOf, actedOf, actOf}
 use Rattle.machine.specs.History as Machine
-use Rattle.machine.proofs.Ways.{Ways, step-by}
+use Rattle.machine.proofs.Ways.{step-by}
 use Rattle.machine.proofs.Runs.{ready-ticks}
 use Rattle.machine.proofs.Stored.{a-string-that-is-loaded-is-stored-whole}
 use Rattle.pipettor.specs.declared.address.Address.{Address}
@@ -79,6 +78,8 @@ column-while : (a : Activity) → (whileOf a ≡ K.Busy) ⊎ (whileOf a ≡ K.De
 column-while (Initialising t) = inl refl
 column-while (Moving t) = inl refl
 column-while (Delaying k) = inr refl
+column-while (Approaching t z) = inl refl
+column-while (Searching f) = inl refl
 column-while Ejecting = inl refl
 column-while Between = inl refl
 

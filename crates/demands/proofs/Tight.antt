@@ -20,6 +20,7 @@ use Rattle.operand.proofs as operand
 use Rattle.command.proofs as command
 use Rattle.line.proofs as line
 use Rattle.text.proofs as text
+use Rattle.level.proofs as level
 use Rattle.motion.proofs as motion
 use Rattle.buffer.proofs as buffer
 use Rattle.reports.proofs as reports
@@ -106,6 +107,15 @@ settings-Settings-flows κs args z z′ ws ws′ p q = result p q
 pub settings-Settings-usual-speed : Tight settings.Settings.usual_speed.Kinds.ps settings.Settings.usual_speed.Kinds.r settings.Settings.usual_speed.Reads.Learnt
 settings-Settings-usual-speed κs args z z′ ws ws′ p q = result p q
 
+pub settings-Settings-aspects : Tight settings.Settings.aspects.Kinds.ps settings.Settings.aspects.Kinds.r settings.Settings.aspects.Reads.Learnt
+settings-Settings-aspects κs args z z′ ws ws′ p q = result p q
+
+pub settings-Settings-usual-aspect : Tight settings.Settings.usual_aspect.Kinds.ps settings.Settings.usual_aspect.Kinds.r settings.Settings.usual_aspect.Reads.Learnt
+settings-Settings-usual-aspect κs args z z′ ws ws′ p q = result p q
+
+pub settings-Detection-with : Tight settings.Detection.with.Kinds.ps settings.Detection.with.Kinds.r settings.Detection.with.Reads.Learnt
+settings-Detection-with κs args z z′ ws ws′ p q = result p q
+
 pub settings-Volume-millionths : Tight settings.Volume.millionths.Kinds.ps settings.Volume.millionths.Kinds.r settings.Volume.millionths.Reads.Learnt
 settings-Volume-millionths κs args z z′ ws ws′ p q = result p q
 
@@ -173,7 +183,26 @@ text-read κs args z z′ ws ws′ p q = result p q
 pub text-loops-loops-ok : Tight text.loops.loops_ok.Kinds.ps text.loops.loops_ok.Kinds.r text.loops.loops_ok.Reads.Learnt
 text-loops-loops-ok κs args z z′ ws ws′ p q = result p q
 
+-- level
+pub level-felt : Tight level.felt.Kinds.ps level.felt.Kinds.r level.felt.Reads.Learnt
+level-felt κs args z z′ ws ws′ p q = result p q
+
+pub level-Search-begin : Tight level.Search.begin.Kinds.ps level.Search.begin.Kinds.r level.Search.begin.Reads.Learnt
+level-Search-begin κs args z z′ ws ws′ p q = result p q
+
+pub level-Search-onward : Tight level.Search.onward.Kinds.ps level.Search.onward.Kinds.r level.Search.onward.Reads.Learnt
+level-Search-onward κs args z z′ ws ws′ p q = result p q
+
 -- motion
+pub motion-Sense-nothing : Tight motion.Sense.nothing.Kinds.ps motion.Sense.nothing.Kinds.r motion.Sense.nothing.Reads.Learnt
+motion-Sense-nothing κs args z z′ ws ws′ p q = result p q
+
+pub motion-Sense-with-tip : Tight motion.Sense.with_tip.Kinds.ps motion.Sense.with_tip.Kinds.r motion.Sense.with_tip.Reads.Learnt
+motion-Sense-with-tip κs args z z′ ws ws′ p q = result p q
+
+pub motion-Sense-with-reading : Tight motion.Sense.with_reading.Kinds.ps motion.Sense.with_reading.Kinds.r motion.Sense.with_reading.Reads.Learnt
+motion-Sense-with-reading κs args z z′ ws ws′ p q = result p q
+
 pub motion-Body-fresh : Tight motion.Body.fresh.Kinds.ps motion.Body.fresh.Kinds.r motion.Body.fresh.Reads.Learnt
 motion-Body-fresh κs args z z′ ws ws′ p q = result p q
 

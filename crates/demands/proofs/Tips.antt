@@ -1,11 +1,10 @@
 -- `specs/Tips`, proved: "a tip changes nothing but ?31 while no E is taken or in progress".
 use mathlib.Core.Path.{_≡_, refl, sym, ap, _∙_}
-use mathlib.Core.Bool.{Bool, true, false}
-use mathlib.Core.List.{List, [], _∷_, _++_}
+use mathlib.Core.Bool.{Bool}
+use mathlib.Core.List.{List, _++_}
 use Prim.Native.Nat.{ℕ, zero, suc, _≤_, _<_}
 use native.Mathlib.Omega.{arith}
 use lib.Dec.{ltb}
-use Rattle.basics.specs.Choice.{if_then_else_}
 use Rattle.basics.proofs.Choice.{by}
 use Rattle.motion.specs.declared.Sense.{Sense}
 use Rattle.motion.specs.Events.{Event, Turn}
@@ -14,10 +13,10 @@ use Rattle.machine.specs.declared.step.Stepped.{Stepped}
 use Rattle.machine.specs.declared.Device.{Device}
 use Rattle.machine.specs.declared.Ran.{Ran}
 use Rattle.machine.specs.declared.Used.{Used}
-use Rattle.machine.specs.declared.Used.the-variants.{Ticks, S3}
+use Rattle.machine.specs.declared.Used.the-variants.{Ticks}
 use Rattle.machine.specs.Step.{around, noNews, bothOf, fine, stepped, stepOf, nextOf}
 use Rattle.machine.specs.Run.{ticksOf, usedOf}
-use Rattle.machine.specs.Device.{device, tipAfter, turned, tickOf, haltedOf, advanceOf, ranOf}
+use Rattle.machine.specs.Device.{device, tipAfter, tickOf, haltedOf, advanceOf, ranOf}
 use Rattle.machine.specs.History as Machine
 use Rattle.machine.specs.Tips.{AtEject}
 use Rattle.machine.proofs.Runs.{count-within}
@@ -30,7 +29,7 @@ use Rattle.pipettor.specs.Controller.{on, tickedOf, stoppedOf, advancedOf, runO
 use Rattle.frames.specs.Tips.{withTip, tipped}
 use Rattle.frames.proofs.Tips.{both-ways, another-tip-leaves-the-controller, another-tip-leaves-the-history, another-tip-changes-no-answer}
 use Rattle.demands.specs.Calls.{lent, Call, byte, listen, tick, stop, advance, run, said, told, used, ticksEvents, ticksUsed, callOf, answerOf, afterOf, eventsOf, answersOf}
-use Rattle.demands.specs.Tips.{sensed, retipped, ApartFor, Apart, asksFor31, SameBut31, Retipped, none, one, AllApart, NoneAsks31, AllSameBut31, TipsTellOnly31}
+use Rattle.demands.specs.Tips.{sensed, retipped, ApartFor, Apart, SameBut31, Retipped, none, one, AllApart, AllSameBut31, TipsTellOnly31}
 use Rattle.demands.proofs.Ticks.{a-run-hands-back-what-its-ticks-do, to-run-is-to-advance}
 
 module _ (t : Bool) (s : Sense) where
@@ -43,7 +42,7 @@ module _ (t : Bool) (s : Sense) where
 
   same-tick : (n : ℕ) (d : Device) (v : News) → Free (suc n) d v → stepOf (around (d .text) s) (d .core) ≡ stepOf (around (d .text) other) (d .core)
   unfolding ticksOf
-  same-tick n d v free = another-tip-changes-no-tick (d .text) s other (d .core) (free 0 (omega arith))
+  same-tick n d v free = another-tip-changes-no-tick (d .text) s other refl (d .core) (free 0 (omega arith))
 
   -- what they add to the history
   same-history : (n : ℕ) (d : Device) (v : News) (u : Bool) → Free n d v → ticksEvents n other (withTip u d) ≡ ticksEvents n s d
@@ -61,7 +60,7 @@ module _ (t : Bool) (s : Sense) where
     free = apart
 
     same-ticks : ticksOf n (around (k .device .text) s) (fine (k .device .core)) ≡ ticksOf n (around (k .device .text) other) (fine (k .device .core))
-    same-ticks = another-tip-changes-no-ticks (k .device .text) s other n (fine (k .device .core)) free
+    same-ticks = another-tip-changes-no-ticks (k .device .text) s other refl n (fine (k .device .core)) free
 
     same-advance : advancedOf n other (tipped u k) ≡ record { controller = tipped (tipAfter n other u) (advancedOf n s k .controller); news = advancedOf n s k .news }
     unfolding advancedOf advanceOf
@@ -69,7 +68,7 @@ module _ (t : Bool) (s : Sense) where
         sym (ap (λ (x : Stepped). record { controller = on (device (k .device .text) (tipAfter n other u) (x .core)) k; news = x .news }) same-ticks)
 
     same-count : usedOf n (around (k .device .text) s) (fine (k .device .core)) ≡ usedOf n (around (k .device .text) other) (fine (k .device .core))
-    same-count = another-tip-changes-no-count (k .device .text) s other n (fine (k .device .core)) free
+    same-count = another-tip-changes-no-count (k .device .text) s other refl n (fine (k .device .core)) free
 
     same-used : runOf n other (tipped u k) .used ≡ runOf n s k .used
     unfolding runOf ranOf

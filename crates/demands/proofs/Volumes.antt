@@ -43,4 +43,4 @@ module _ (v : Volume) (rate : ℕ) where
     pub n-times-a-volume-is-near : moving (after a calls .device .core .course .state) ≡ false → Near (after a calls .device .core .body .plunger) (place + n * millionthsOf v rate)
     n-times-a-volume-is-near still =
         let c = after a calls .device .core in
-        rw (at-rest (c .course .state) (c .body .plunger) still, n-times-a-volume-is-exact) at (every-controller-is-sound a calls .told .near)
+        rw (at-rest (c .course .state) (c .body .plunger) (c .body .exact) still, n-times-a-volume-is-exact) at (every-controller-is-sound a calls .told .near)

@@ -1,8 +1,8 @@
 -- The three demands, over any calls from making. What they say of frames stands in `specs/Frames`, of what calls leave in hand in `specs/InHand`. `proofs/Demands` proves 1 and 3, `proofs/Agreement` 2.
-use Prim.Native.Nat.{ℕ, _-_, _≤_, _<_}
+use Prim.Native.Nat.{ℕ, _≤_, _<_}
 use mathlib.Core.Path.{_≡_}
 use mathlib.Core.Logic.{_⊎_}
-use mathlib.Core.Bool.{true, false}
+use mathlib.Core.Bool.{Bool, true, false}
 use mathlib.Core.List.{List, [], _∷_, _++_}
 use lib.ListN.{length, take, drop}
 use Rattle.basics.specs.Choice.{if_then_else_}
@@ -17,9 +17,16 @@ use Rattle.command.specs.Numbers.{verdictNumber}
 use Rattle.text.specs.declared.Question.the-variants as Q
 use Rattle.line.specs.declared.Report.the-variants.{Whole}
 use Rattle.line.specs.Wire.{dataByte}
+use Rattle.level.specs.declared.Pressure.the-variants.{Beyond}
+use Rattle.level.specs.declared.Search.{Search}
+use Rattle.level.specs.declared.Finding.the-variants.{Missed}
+use Rattle.level.specs.Level as Level
+use Rattle.level.specs.Level.{findingOf}
 use Rattle.motion.specs.declared.Sense.{Sense}
+use Rattle.motion.specs.declared.Travel.{Travel}
+use Rattle.motion.specs.Detect.{feltIn, noWayDown}
 use Rattle.motion.specs.declared.Activity.{Activity}
-use Rattle.motion.specs.declared.Activity.the-variants.{Initialising, Ejecting, Between}
+use Rattle.motion.specs.declared.Activity.the-variants.{Initialising, Approaching, Searching, Ejecting, Between}
 use Rattle.motion.specs.declared.Travel.{Travel}
 use Rattle.motion.specs.Events.{quiet, start, volume}
 use Rattle.buffer.specs.declared.course.State.the-variants.{Empty, Running}
@@ -29,7 +36,7 @@ use Rattle.machine.specs.Step.{core, news, noNews}
 use Rattle.machine.specs.Device.{device}
 use Rattle.machine.specs.History.{sumOf, IsSum, StandsBy, moving}
 use Rattle.machine.specs.OnCourse as OnCourse
-use Rattle.machine.specs.OnCourse.{Cause, Fault}
+use Rattle.machine.specs.OnCourse.{Cause, Fault, leftIn}
 use Rattle.machine.specs.Tips.{Ejects, NoE}
 use Rattle.reports.specs.declared.Told.the-variants.{Says}
 use Rattle.pipettor.specs.declared.address.Address.{Address}
@@ -73,6 +80,18 @@ Written (Answer n) before after = (n ≤ 20) × (length after ≡ length before)
 abbrev pub Takes : Controller → Command → Type 0
 Takes k command = OnCourse.Takes (k .device .text) (k .device .core) command
 
+-- 02, W-206: the next tick feels the pressure, for B: it takes B, which nothing but the reading can refuse; or B's move to p2 or its search is in progress
+pub data FeelsFor (k : Controller) : Type 0 where
+  taking : (here : Bool) → Takes k (C.Detect here) → k .device .core .body .initialised ≡ true → noWayDown (k .device .core .body .settings .detection) ≡ false → FeelsFor k
+  moving-to-p2 : (t : Travel) (z : ℕ) → k .device .core .course .state ≡ Running (Approaching t z) → FeelsFor k
+  searching : (f : Search) → k .device .core .course .state ≡ Running (Searching f) → FeelsFor k
+
+-- a search is in progress, and its next tick finds nothing where no way is left (level, `findingOf`; in words `a-miss-is-the-end-of-the-way`, level `Trail`)
+pub record MissesIn (s : Sense) (k : Controller) : Type 0 where
+  pub search : Search
+  pub searching : k .device .core .course .state ≡ Running (Searching search)
+  pub missed : findingOf (k .device .core .body .settings .detection) (Level.laterOf search) (feltIn s) ≡ Missed
+
 -- why a run fails in the next tick
 abbrev pub CauseIn : Sense → Controller → Refusal → Type 0
 CauseIn s k why = Cause (k .device .text) s (k .device .core) why
@@ -102,11 +121,14 @@ pub record Answers (k : Controller) : Type 0 where
   -- 02, W-203: "10 for E0 without a tip; 7 for E1 uninitialised; 8 for a failed eject"
   pub a-run-fails-exactly-for-a-cause : (s : Sense) (why : Refusal) → Exactly (tickedOf s k .next .news .failed ≡ Refused why) (CauseIn s k why)
   pub ten-is-an-E0-without-a-tip : (s : Sense) → Exactly (verdictNumber (tickedOf s k .next .news .failed) ≡ 10) (Takes k (C.Eject false) × (s .tip ≡ false))
+  -- 02, W-206: "5 for a reading outside -32767 to 32767 in any tick from the one that takes B, 6 when p4 increments or the end of travel are reached in a tick without a find"
+  pub five-is-a-reading-outside : (s : Sense) → Exactly (verdictNumber (tickedOf s k .next .news .failed) ≡ 5) (FeelsFor k × (feltIn s ≡ Beyond))
+  pub six-is-a-search-without-a-find : (s : Sense) → Exactly (verdictNumber (tickedOf s k .next .news .failed) ≡ 6) (MissesIn s k)
   pub eight-is-a-tip-still-there : (s : Sense) → Exactly (verdictNumber (tickedOf s k .next .news .failed) ≡ 8) ((k .device .core .course .state ≡ Running Ejecting) × (s .tip ≡ true))
   -- and what is left of it
   pub a-run-that-fails-leaves :
       (s : Sense) (why : Refusal) → CauseIn s k why →
-      tickedOf s k .next ≡ record { controller = on (device (k .device .text) (s .tip) (core (k .device .core .body) (failedOf why (k .device .core .course)))) k; news = news (Refused why) false }
+      tickedOf s k .next ≡ record { controller = on (device (k .device .text) (s .tip) (core (leftIn (k .device .core .course .state) (k .device .core .body)) (failedOf why (k .device .core .course)))) k; news = news (Refused why) false }
   -- 02, W-203: "The tick that takes it asks the host to eject (a run says if any tick did)": once for each E that is taken and not refused, and in no other tick
   pub the-host-is-asked-once-for-each-E : (s : Sense) → Exactly (tickedOf s k .next .news .eject ≡ true) (Ejects (k .device .text) s (k .device .core))
   pub ticks-ask-where-one-does : (n : ℕ) (s : Sense) → Exactly (advancedOf n s k .news .eject ≡ true) (AsksWithin n s k)

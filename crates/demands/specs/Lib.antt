@@ -10,3 +10,4 @@ pub mod Texts
 pub mod Records
 pub mod Parts
 pub mod Tips
+pub mod Searches

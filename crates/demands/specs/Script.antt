@@ -8,7 +8,8 @@ use lib.ListN.{take, drop, replicate}
 use Rattle.basics.specs.Choice.{if_then_else_}
 use Rattle.basics.specs.Bytes.{chars}
 use Rattle.line.specs.Wire.{framed}
-use Rattle.motion.specs.declared.Sense.{Sense}
+use lib.IntN.{ℤ, pos}
+use Rattle.motion.specs.Bodies.{sensing, nothingSensed}
 use Rattle.machine.specs.declared.Used.the-variants.{Ticks, S3}
 use Rattle.pipettor.specs.declared.address.Address.the-variants.{One}
 use Rattle.pipettor.specs.declared.Controller.{Controller}
@@ -19,23 +20,22 @@ use Rattle.demands.specs.Calls.{lent, Call, byte, advance, run, Answered
 use Rattle.demands.specs.Contracts.{Program, TakesAll, leftBy, answeredBy}
 
 -- a frame to address 1 and what it answers, status byte and data; so many ticks, and where the plunger and the exact position then are;
--- a run of at most so many ticks, and how many it says it used; and so many ticks with a tip or without one, and whether they ask the host to eject
-infix 68 _answers_ _ticks_exact_ _run-uses_ _ticks-with_ask_
+-- a run of at most so many ticks, and how many it says it used; so many ticks with a tip or without one, and whether they ask the host to eject; so many ticks at a reading of the pressure, with the places again
+infix 68 _answers_ _ticks_exact_ _run-uses_ _ticks-with_ask_ _ticks-at_reach_exact_
 pub data Line : Type 0 where
   _answers_ : String → String → Line
   _ticks_exact_ : ℕ → ℕ → ℕ → Line
   _run-uses_ : ℕ → ℕ → Line
   _ticks-with_ask_ : ℕ → Bool → Bool → Line
-
-abbrev pub sensing : Bool → Sense
-sensing t = record { tip = t }
+  _ticks-at_reach_exact_ : ℕ → ℤ → ℕ → ℕ → Line
 
 -- its calls: byte after byte, each with a buffer of 32 bytes lent; ticks; a run
 abbrev pub callsOf : Line → List Call
 callsOf (text answers reply) = map (λ (b : ℕ). byte b (lent (replicate 32 0))) (framed 49 (chars text))
-callsOf (n ticks place exact millionths) = advance n (sensing false) ∷ []
-callsOf (n run-uses count) = run n (sensing false) ∷ []
-callsOf (n ticks-with tip ask asked) = advance n (sensing tip) ∷ []
+callsOf (n ticks place exact millionths) = advance n nothingSensed ∷ []
+callsOf (n run-uses count) = run n nothingSensed ∷ []
+callsOf (n ticks-with tip ask asked) = advance n (sensing tip (pos 0)) ∷ []
+callsOf (n ticks-at reading reach there exact millionths) = advance n (sensing false reading) ∷ []
 
 -- status byte and data of an answer: without `/`, `0` in front and 03h, CR, LF behind
 abbrev pub dataIn : Said → List ℕ → List ℕ
@@ -73,15 +73,17 @@ program p = record { left = λ calls. leftBy p calls (p .fresh One); back = λ c
 -- what is seen of a line after earlier calls: the answer to the last byte or to the run; or the plunger and the exact position
 unfoldable pub seen : Player → List Call → Line → List ℕ
 seen player calls (text answers reply) = lastOf (player .back (calls ++ callsOf (text answers reply)))
-seen player calls (n ticks place exact millionths) = let b = player .left (calls ++ advance n (sensing false) ∷ []) .device .core .body in b .plunger ∷ b .exact ∷ []
-seen player calls (n run-uses count) = lastOf (player .back (calls ++ run n (sensing false) ∷ []))
-seen player calls (n ticks-with tip ask asked) = lastOf (player .back (calls ++ advance n (sensing tip) ∷ []))
+seen player calls (n ticks place exact millionths) = let b = player .left (calls ++ advance n nothingSensed ∷ []) .device .core .body in b .plunger ∷ b .exact ∷ []
+seen player calls (n run-uses count) = lastOf (player .back (calls ++ run n nothingSensed ∷ []))
+seen player calls (n ticks-with tip ask asked) = lastOf (player .back (calls ++ advance n (sensing tip (pos 0)) ∷ []))
+seen player calls (n ticks-at reading reach there exact millionths) = let b = player .left (calls ++ advance n (sensing false reading) ∷ []) .device .core .body in b .plunger ∷ b .exact ∷ []
 
 abbrev pub expected : Line → List ℕ
 expected (text answers reply) = chars reply
 expected (n ticks place exact millionths) = place ∷ millionths ∷ []
 expected (n run-uses count) = count ∷ []
 expected (n ticks-with tip ask asked) = flag asked ∷ []
+expected (n ticks-at reading reach there exact millionths) = there ∷ millionths ∷ []
 
 abbrev pub same : List ℕ → List ℕ → Bool
 same [] [] = true

@@ -1,18 +1,19 @@
 -- 02, W-203: what a tip changes, over any calls: another tip with every tick, while no E is taken or in progress.
 use Prim.Native.Nat.{ℕ, _<_}
 use mathlib.Core.Path.{_≡_}
-use mathlib.Core.Bool.{Bool, true, false}
+use mathlib.Core.Bool.{Bool, false}
 use mathlib.Core.List.{List, [], _∷_}
 use Rattle.motion.specs.declared.Sense.{Sense}
+use Rattle.motion.specs.Bodies.{sensing}
 use Rattle.machine.specs.Tips.{AtEject}
 use Rattle.pipettor.specs.declared.Controller.{Controller}
-use Rattle.pipettor.specs.Controller.{advancedOf, runOf}
+use Rattle.pipettor.specs.Controller.{advancedOf}
 use Rattle.frames.specs.Tips.{tipped, completesTip}
-use Rattle.demands.specs.Calls.{Call, byte, listen, tick, stop, advance, run, ticksUsed, callOf, answerOf, afterOf, eventsOf, answersOf}
+use Rattle.demands.specs.Calls.{Call, byte, listen, tick, stop, advance, run, callOf, answerOf, afterOf, eventsOf, answersOf}
 
 -- a call with another tip
 abbrev pub sensed : Bool → Sense → Sense
-sensed t s = record { tip = t }
+sensed t s = sensing t (s .reading)
 
 abbrev pub retipped : Bool → Call → Call
 retipped t (byte b l) = byte b l

@@ -13,7 +13,7 @@ use Rattle.basics.specs.Bytes.{chars, zeroDigit, digit, every, valueOf}
 use Rattle.basics.specs.Exactly.{Exactly}
 use Rattle.basics.proofs.Choice.{by}
 use Rattle.basics.proofs.Lists.{empty}
-use Rattle.basics.proofs.Digits.{and-both}
+use Rattle.basics.proofs.Digits.{and-both, digit-range}
 use Rattle.line.specs.Wire.{printable}
 use Rattle.operand.specs.declared.Class.the-variants.{Digit}
 use Rattle.operand.specs.declared.Number.{Number}
@@ -25,7 +25,7 @@ use Rattle.operand.proofs.Runs.{run-rest, run-digits, run-all}
 use Rattle.desk.specs.declared.Desk.{Desk}
 use Rattle.desk.specs.declared.Desk.the-variants.{Bench, Rig}
 use Rattle.desk.specs.declared.Quantity.{Quantity}
-use Rattle.desk.specs.declared.Quantity.the-variants.{Ticks, Run, Lend, New, Tip}
+use Rattle.desk.specs.declared.Quantity.the-variants.{Ticks, Run, Lend, New, Tip, Press, Minus}
 use Rattle.desk.specs.declared.Word.{Word}
 use Rattle.desk.specs.declared.Word.the-variants as W
 use Rattle.desk.specs.declared.Asked.{Asked}
@@ -175,15 +175,21 @@ module _ (desk : Desk) (t : List ℕ) where
       by (Formed desk t) (knows desk (wordOf t)) (λ k. worded (wordOf t) (drop (length (spelled (wordOf t))) t) k (word-heads t) clean) (λ k. tt))
       (λ e. tt)
 
--- and back: what begins with a word is read by it
-abbrev word : Word → Bool
-word W.Frame = true
-word (W.Number q) = true
-word W.Stop = true
-word W.Raw = true
-word W.Other = false
+-- digits do not begin with a minus
+no-minus : (u : List ℕ) → every digit u ≡ true → begins (chars "-") u ≡ false
+unfolding begins every
+no-minus [] h = refl
+no-minus (b ∷ u) h = let d = digit-range b (and-both (digit b) (every digit u) h .0) in rw (ne-eqb 45 b (λ e. omega arith))
 
-word-first : (w : Word) (u : List ℕ) → word w ≡ true → wordOf (spelled w ++ u) ≡ w
+-- and back: what begins with a word is read by it; behind the word of a number stand digits, so `press ` is not read as `press -`
+abbrev word : Word → List ℕ → Bool
+word W.Frame u = true
+word (W.Number q) u = every digit u
+word W.Stop u = true
+word W.Raw u = true
+word W.Other u = false
+
+word-first : (w : Word) (u : List ℕ) → word w u ≡ true → wordOf (spelled w ++ u) ≡ w
 unfolding wordOf numberWord begins
 word-first W.Frame u h = refl
 word-first (W.Number Ticks) u h = refl
@@ -191,6 +197,8 @@ word-first (W.Number Run) u h = refl
 word-first (W.Number Lend) u h = refl
 word-first (W.Number New) u h = refl
 word-first (W.Number Tip) u h = refl
+word-first (W.Number Press) u h = rw (no-minus u h)
+word-first (W.Number Minus) u h = refl
 word-first W.Stop u h = refl
 word-first W.Raw u h = refl
 word-first W.Other u h = absurd (false≢true h)
@@ -200,7 +208,7 @@ frames-known Bench = refl
 frames-known Rig = refl
 
 module _ (desk : Desk) (t : List ℕ) where
-  read-by : (w : Word) (u : List ℕ) → word w ≡ true → knows desk w ≡ true → Clean t → t ≡ spelled w ++ u → askedOf desk t ≡ behind w u
+  read-by : (w : Word) (u : List ℕ) → word w u ≡ true → knows desk w ≡ true → Clean t → t ≡ spelled w ++ u → askedOf desk t ≡ behind w u
   unfolding formOf
   read-by w u h k c e = clean-asks desk t c ∙ rw e (rw (word-first w u h, k, drop-at (spelled w) u (length (spelled w)) refl))
 
@@ -212,13 +220,13 @@ module _ (desk : Desk) (t : List ℕ) where
   unfolding behind
   a-frame-is-asked-for = record { only = what-is-asked A.Send; always = λ s. read-by W.Frame (s .text) refl (frames-known desk) (s .clean) (s .form) }
 
-  -- for so many ticks, a run, buffers or an address exactly where it is the word and a number in its range
+  -- for so many ticks, a run, buffers, an address, a tip or a pressure exactly where it is the word and a number in its range
   pub a-number-is-asked-for : (q : Quantity) (n : ℕ) → Exactly (askedOf desk t ≡ A.Number q n) (Gives desk t q n)
   unfolding behind ranged allowed
   a-number-is-asked-for q n = record {
     only = what-is-asked (A.Number q n);
     always = λ g.
-        read-by (W.Number q) (g .digits) refl (g .known) (g .clean) (g .form)
+        read-by (W.Number q) (g .digits) (g .counts .digits-only) (g .known) (g .clean) (g .form)
         ∙ rw (counts (g .digits) n (g .counts), le-leb (leastOf q) n (g .least), le-leb n (mostOf q) (g .most));
   }
 

@@ -10,7 +10,6 @@ use lib.Dec.{leb, eqb}
 use Rattle.basics.specs.Choice.{if_then_else_}
 use Rattle.basics.specs.Bytes.{zeroDigit}
 use Rattle.basics.proofs.Choice.{by}
-use Rattle.basics.proofs.Rules.{tests}
 use Rattle.basics.proofs.Lists.{drop-step, tail-all, empty, full}
 use Rattle.basics.proofs.Digits.{and-both}
 use Rattle.operand.specs.declared.Number.{Number}
@@ -18,7 +17,7 @@ use Rattle.operand.specs.declared.Number.the-variants as N
 use Rattle.operand.specs.Number.{numberOf}
 use Rattle.desk.specs.declared.Desk.{Desk}
 use Rattle.desk.specs.declared.Quantity.{Quantity}
-use Rattle.desk.specs.declared.Quantity.the-variants.{Ticks, Run, Lend, New, Tip}
+use Rattle.desk.specs.declared.Quantity.the-variants.{Ticks, Run, Lend, New, Tip, Press, Minus}
 use Rattle.desk.specs.declared.Word.{Word}
 use Rattle.desk.specs.declared.Word.the-variants as W
 use Rattle.desk.specs.declared.Asked.{Asked}
@@ -159,7 +158,9 @@ number-heads t =
     by (Headed t) (begins (spelled (W.Number Run)) t) (split _ t) (λ _.
     by (Headed t) (begins (spelled (W.Number Lend)) t) (split _ t) (λ _.
     by (Headed t) (begins (spelled (W.Number New)) t) (split _ t) (λ _.
-    by (Headed t) (begins (spelled (W.Number Tip)) t) (split _ t) (λ _. refl)))))
+    by (Headed t) (begins (spelled (W.Number Tip)) t) (split _ t) (λ _.
+    by (Headed t) (begins (spelled (W.Number Minus)) t) (split _ t) (λ _.
+    by (Headed t) (begins (spelled (W.Number Press)) t) (split _ t) (λ _. refl)))))))
 
 pub word-heads : (t : List ℕ) → Headed t (wordOf t)
 unfolding wordOf

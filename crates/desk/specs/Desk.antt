@@ -11,7 +11,7 @@ use Rattle.line.specs.Wire.{printable}
 use Rattle.desk.specs.declared.Desk.{Desk}
 use Rattle.desk.specs.declared.Desk.the-variants.{Bench, Rig}
 use Rattle.desk.specs.declared.Quantity.{Quantity}
-use Rattle.desk.specs.declared.Quantity.the-variants.{Ticks, Run, Lend, New, Tip}
+use Rattle.desk.specs.declared.Quantity.the-variants.{Ticks, Run, Lend, New, Tip, Press, Minus}
 use Rattle.desk.specs.declared.Word.{Word}
 use Rattle.desk.specs.declared.Word.the-variants as W
 use Rattle.desk.specs.declared.Asked.{Asked}
@@ -29,6 +29,8 @@ spelled (W.Number Run) = chars "run "
 spelled (W.Number Lend) = chars "lend "
 spelled (W.Number New) = chars "new "
 spelled (W.Number Tip) = chars "tip "
+spelled (W.Number Press) = chars "press "
+spelled (W.Number Minus) = chars "press -"
 spelled W.Stop = chars "stop"
 spelled W.Raw = chars "x "
 spelled W.Other = []
@@ -38,7 +40,7 @@ begins [] t = true
 begins (a ∷ w) [] = false
 begins (a ∷ w) (b ∷ t) = eqb a b && begins w t
 
--- none of the words begins with another
+-- none of the words begins with another, but `press -` with `press `, and so it is tested before it
 unfoldable pub numberWord : List ℕ → Word
 numberWord t =
     if begins (spelled (W.Number Ticks)) t then W.Number Ticks
@@ -46,6 +48,8 @@ numberWord t =
     else if begins (spelled (W.Number Lend)) t then W.Number Lend
     else if begins (spelled (W.Number New)) t then W.Number New
     else if begins (spelled (W.Number Tip)) t then W.Number Tip
+    else if begins (spelled (W.Number Minus)) t then W.Number Minus
+    else if begins (spelled (W.Number Press)) t then W.Number Press
     else W.Other
 
 unfoldable pub wordOf : List ℕ → Word
@@ -63,18 +67,22 @@ knows Bench (W.Number Run) = false
 knows Bench (W.Number Lend) = false
 knows Bench (W.Number New) = false
 knows Bench (W.Number Tip) = false
+knows Bench (W.Number Press) = false
+knows Bench (W.Number Minus) = false
 knows Bench W.Stop = false
 knows Bench W.Raw = false
 knows Bench W.Other = false
 knows Rig w = true
 
--- "1 to 60000"; "0 to 64"; a tip is 0 or 1; any other number has at most 6 digits
+-- "1 to 60000"; "0 to 64"; a tip is 0 or 1; a pressure is -40000 to 40000, without `-0`; any other number has at most 6 digits
 abbrev pub leastOf : Quantity → ℕ
 leastOf Ticks = 1
 leastOf Run = 0
 leastOf Lend = 0
 leastOf New = 0
 leastOf Tip = 0
+leastOf Press = 0
+leastOf Minus = 1
 
 abbrev pub mostOf : Quantity → ℕ
 mostOf Ticks = 60000
@@ -82,6 +90,8 @@ mostOf Run = 999999
 mostOf Lend = 64
 mostOf New = 999999
 mostOf Tip = 1
+mostOf Press = 40000
+mostOf Minus = 40000
 
 unfoldable pub allowed : Quantity → ℕ → Bool
 allowed q n = leb (leastOf q) n && leb n (mostOf q)

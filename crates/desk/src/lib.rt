@@ -15,13 +15,15 @@ pub enum Desk {
     Rig,
 }
 
-// What a number in a line counts: ticks that pass, ticks that a run may take, bytes of the answer buffers, an address, a tip.
+// What a number in a line counts: ticks that pass, ticks that a run may take, bytes of the answer buffers, an address, a tip, a pressure, a pressure below 0.
 pub enum Quantity {
     Ticks,
     Run,
     Lend,
     New,
     Tip,
+    Press,
+    Minus,
 }
 
 // How a line begins.
@@ -98,6 +100,12 @@ fn number_word(t: &[u8]) -> Word
     if starts(t, b"tip ") {
         return Word::Number(Quantity::Tip);
     }
+    if starts(t, b"press -") {
+        return Word::Number(Quantity::Minus);
+    }
+    if starts(t, b"press ") {
+        return Word::Number(Quantity::Press);
+    }
     Word::Other
 }
 
@@ -126,6 +134,8 @@ impl Quantity {
             Quantity::Lend => 5,
             Quantity::New => 4,
             Quantity::Tip => 4,
+            Quantity::Press => 6,
+            Quantity::Minus => 7,
         }
     }
 
@@ -138,6 +148,8 @@ impl Quantity {
             Quantity::Lend => false,
             Quantity::New => false,
             Quantity::Tip => false,
+            Quantity::Press => false,
+            Quantity::Minus => false,
         }
     }
 
@@ -150,6 +162,8 @@ impl Quantity {
             Quantity::Lend => 0,
             Quantity::New => 0,
             Quantity::Tip => 0,
+            Quantity::Press => 0,
+            Quantity::Minus => 1,
         }
     }
 
@@ -162,6 +176,8 @@ impl Quantity {
             Quantity::Lend => 64,
             Quantity::New => 999_999,
             Quantity::Tip => 1,
+            Quantity::Press => 40_000,
+            Quantity::Minus => 40_000,
         }
     }
 

@@ -14,7 +14,8 @@ use Rattle.line.specs.declared.Report.the-variants.{Character}
 use Rattle.line.specs.Answer.{statusOf, answerOf}
 use Rattle.motion.specs.declared.Activity.the-variants.{Between}
 use Rattle.motion.specs.Events.{Turn}
-use Rattle.motion.specs.Motion.{atPlunger, resetOf, freshBody}
+use Rattle.motion.specs.Bodies.{atPlunger}
+use Rattle.motion.specs.Motion.{resetOf, freshBody}
 use Rattle.buffer.specs.declared.course.State.{State}
 use Rattle.buffer.specs.declared.course.State.the-variants.{Empty, Stored, Running, Stopped, Done}
 use Rattle.buffer.specs.declared.order.Action.{Action}

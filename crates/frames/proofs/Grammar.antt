@@ -21,10 +21,14 @@ use Rattle.command.specs.declared.Taken.{Taken}
 use Rattle.command.specs.declared.Taken.the-variants.{Good, Bad}
 use Rattle.command.specs.declared.Formed.{Formed}
 use Rattle.command.specs.declared.Formed.the-variants.{Made, NoLetter, WrongOperand}
+use Rattle.command.specs.declared.Row.{Row}
+use Rattle.command.specs.declared.Row.the-variants.{Of, Missing}
+use Rattle.operand.specs.declared.Pair.{Pair}
+use Rattle.operand.specs.Number.{pairOf}
 use Rattle.command.specs.declared.refusal.Misread.{Misread}
 use Rattle.command.specs.declared.refusal.Misread.the-variants as M
 use Rattle.command.specs.Command.{placed, foundIn}
-use Rattle.command.specs.Table.{letterOf, made, both, inUnit, volumeOf, pacedOf, slopesOf, compensationOf, commandOf}
+use Rattle.command.specs.Table.{letterOf, made, both, inUnit, volumeOf, pacedOf, slopesOf, compensationOf, rowOf, setBy, aspectOf, commandOf}
 use Rattle.text.specs.declared.Checked.{Checked}
 use Rattle.text.specs.declared.Checked.the-variants.{Fine, Wrong}
 use Rattle.text.specs.Text.{Step, Reading, reads, wrong, thenRead, verdict, readFrom, readOf, checkOf}
@@ -39,6 +43,8 @@ named L.Slopes = true
 named L.Backlash = true
 named L.Compensation = true
 named L.Delay = true
+named L.Aspect = true
+named L.Detect = true
 named L.Eject = true
 named L.Open = true
 named L.Close = true
@@ -62,9 +68,11 @@ named-are-the-letters b =
     (one-of (eqb b 75) _ _ _ refl
     (one-of (eqb b 98) _ _ _ refl
     (one-of (eqb b 77) _ _ _ refl
+    (one-of (eqb b 112) _ _ _ refl
+    (one-of (eqb b 66) _ _ _ refl
     (one-of (eqb b 69) _ _ _ refl
     (one-of (eqb b 103) _ _ _ refl
-    (one-of (eqb b 71) _ _ _ refl refl)))))))))))))
+    (one-of (eqb b 71) _ _ _ refl refl)))))))))))))))
 
 -- a letter of the table makes a command or refuses its operand text; no other does
 abbrev lettered : Formed → Bool
@@ -88,8 +96,13 @@ unfolding inUnit
 lettered-unit read (Good n) x y f g = by (λ r. lettered r ≡ true) (eqb n 0) (λ _. lettered-one read f x) (λ _. lettered-one read g y)
 lettered-unit read Bad x y f g = refl
 
+lettered-row : (row : Row) (p : Pair) → lettered (setBy row p) ≡ true
+unfolding setBy
+lettered-row (Of a) p = lettered-one _ _ _
+lettered-row Missing p = refl
+
 lettered-as-named : (l : Letter) (t : List ℕ) → lettered (commandOf l t) ≡ named l
-unfolding commandOf volumeOf pacedOf slopesOf compensationOf
+unfolding commandOf volumeOf pacedOf slopesOf compensationOf aspectOf
 lettered-as-named L.Home t = lettered-one _ _ _
 lettered-as-named (L.Volume way) t = lettered-unit _ _ _ _ _ _
 lettered-as-named (L.Speed pace) t = lettered-unit _ _ _ _ _ _
@@ -97,6 +110,8 @@ lettered-as-named L.Slopes t = lettered-two _ _ _ _
 lettered-as-named L.Backlash t = lettered-one _ _ _
 lettered-as-named L.Compensation t = lettered-two _ _ _ _
 lettered-as-named L.Delay t = lettered-one _ _ _
+lettered-as-named L.Aspect t = lettered-row (rowOf (pairOf t .first)) (pairOf t)
+lettered-as-named L.Detect t = lettered-one _ _ _
 lettered-as-named L.Eject t = lettered-one _ _ _
 lettered-as-named L.Open [] = refl
 lettered-as-named L.Open (b ∷ t) = refl

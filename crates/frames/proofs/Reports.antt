@@ -7,12 +7,15 @@ use lib.Dec.{eqb, leb}
 use Rattle.basics.specs.Choice.{if_then_else_}
 use Rattle.basics.proofs.Choice.{by}
 use Rattle.settings.specs.declared.Settings.{Settings}
+use Rattle.settings.specs.declared.Detection.{Detection}
+use Rattle.level.specs.declared.Search.{Search}
+use Rattle.motion.specs.declared.Travel.{Travel}
 use Rattle.text.specs.declared.Question.the-variants as Q
 use Rattle.text.specs.declared.Data.the-variants as D
 use Rattle.text.specs.Data.{receivedOf}
-use Rattle.line.specs.declared.Report.the-variants.{Whole}
+use Rattle.line.specs.declared.Report.the-variants.{Whole, Tenths}
 use Rattle.motion.specs.declared.Body.{Body}
-use Rattle.motion.specs.declared.Activity.the-variants.{Initialising, Moving, Delaying, Ejecting, Between}
+use Rattle.motion.specs.declared.Activity.the-variants.{Initialising, Moving, Delaying, Approaching, Searching, Ejecting, Between}
 use Rattle.buffer.specs.declared.course.State.{State}
 use Rattle.buffer.specs.declared.course.State.the-variants.{Empty, Stored, Running, Stopped, Done}
 use Rattle.machine.specs.declared.Device.{Device}
@@ -20,15 +23,15 @@ use Rattle.machine.specs.Run.{readyIn, readyOf}
 use Rattle.machine.specs.History.{moving}
 use Rattle.reports.specs.declared.Told.{Told}
 use Rattle.reports.specs.declared.Told.the-variants.{Says, No}
-use Rattle.reports.specs.Reports.{goalIn, busyIn, tipIn, settingOf, valueOf, queryOf, tellOf}
+use Rattle.reports.specs.Reports.{goalIn, busyIn, tipIn, settingOf, aspectIn, valueOf, queryOf, tellOf}
 use Rattle.pipettor.specs.declared.address.Address.{Address}
 use Rattle.pipettor.specs.Byte.{toldOf}
 use Rattle.frames.specs.Refused.{numberFor, refusalOf}
 use Rattle.frames.specs.Grammar.{isAmong}
 
--- the numbers of 01's list for ?, and 02's 31
+-- the numbers of 01's list for ?, and 02's 31 to 38
 abbrev pub values : List ℕ
-values = 0 ∷ 1 ∷ 3 ∷ 4 ∷ 6 ∷ 7 ∷ 8 ∷ 9 ∷ 10 ∷ 16 ∷ 17 ∷ 18 ∷ 19 ∷ 20 ∷ 29 ∷ 31 ∷ 67 ∷ []
+values = 0 ∷ 1 ∷ 3 ∷ 4 ∷ 6 ∷ 7 ∷ 8 ∷ 9 ∷ 10 ∷ 16 ∷ 17 ∷ 18 ∷ 19 ∷ 20 ∷ 29 ∷ 31 ∷ 32 ∷ 33 ∷ 34 ∷ 35 ∷ 36 ∷ 37 ∷ 38 ∷ 67 ∷ []
 
 none-of : (t : Bool) (x others : Told) (m : Bool) → (m ≡ false → others ≡ No) → (t || m) ≡ false → (if t then x else others) ≡ No
 none-of true x others m f h = absurd (true≢false h)
@@ -59,6 +62,21 @@ behind-settings n m h =
     (later (eqb n 16) _
     (later (eqb n 10) _ (later (eqb n 9) _ (later (eqb n 8) _ (later (eqb n 7) _ (later (eqb n 6) _ (later (eqb n 4) _ h))))))))))
 
+no-aspect : (n : ℕ) (d : Detection) (m : List ℕ) → isAmong n (32 ∷ 33 ∷ 34 ∷ 35 ∷ 36 ∷ 37 ∷ 38 ∷ m) ≡ false → aspectIn n d ≡ No
+unfolding aspectIn
+no-aspect n d m =
+    none-of (eqb n 32) _ _ _
+    (none-of (eqb n 33) _ _ _
+    (none-of (eqb n 34) _ _ _
+    (none-of (eqb n 35) _ _ _
+    (none-of (eqb n 36) _ _ _
+    (none-of (eqb n 37) _ _ _
+    (none-of (eqb n 38) _ _ _ (λ h. refl)))))))
+
+behind-aspects : (n : ℕ) (m : List ℕ) → isAmong n (32 ∷ 33 ∷ 34 ∷ 35 ∷ 36 ∷ 37 ∷ 38 ∷ m) ≡ false → isAmong n m ≡ false
+behind-aspects n m h =
+    later (eqb n 38) _ (later (eqb n 37) _ (later (eqb n 36) _ (later (eqb n 35) _ (later (eqb n 34) _ (later (eqb n 33) _ (later (eqb n 32) _ h))))))
+
 no-value : (n : ℕ) (tip : Bool) (b : Body) (s : State) → isAmong n values ≡ false → valueOf n tip b s ≡ No
 unfolding valueOf
 no-value n tip b s =
@@ -67,8 +85,18 @@ no-value n tip b s =
     (none-of (eqb n 3) _ _ _
     (λ h.
     by (λ (t : Told). t ≡ No) (leb 4 n && leb n 20)
-    (λ e. no-setting n (b .settings) (29 ∷ 31 ∷ 67 ∷ []) h)
-    (λ e. none-of (eqb n 29) _ _ _ (none-of (eqb n 31) _ _ _ (none-of (eqb n 67) _ _ _ (λ k. refl))) (behind-settings n (29 ∷ 31 ∷ 67 ∷ []) h)))))
+    (λ e. no-setting n (b .settings) behind h)
+    (λ e.
+    none-of (eqb n 29) _ _ _
+    (none-of (eqb n 31) _ _ _
+    (λ k.
+    by (λ (t : Told). t ≡ No) (leb 32 n && leb n 38)
+    (λ e. no-aspect n (b .settings .detection) (67 ∷ []) k)
+    (λ e. none-of (eqb n 67) _ _ _ (λ q. refl) (behind-aspects n (67 ∷ []) k))))
+    (behind-settings n behind h)))))
+  where
+    behind : List ℕ
+    behind = 29 ∷ 31 ∷ 32 ∷ 33 ∷ 34 ∷ 35 ∷ 36 ∷ 37 ∷ 38 ∷ 67 ∷ []
 
 no-query : (n error column : ℕ) → isAmong n (0 ∷ 1 ∷ 2 ∷ []) ≡ false → queryOf n error column ≡ No
 unfolding queryOf
@@ -98,6 +126,8 @@ module _ (a : Address) (d : Device) where
       go (Running (Initialising t)) h = absurd (true≢false h)
       go (Running (Moving t)) h = absurd (true≢false h)
       go (Running (Delaying k)) h = refl
+      go (Running (Approaching t z)) h = absurd (true≢false h)
+      go (Running (Searching f)) h = absurd (true≢false h)
       go (Running Ejecting) h = refl
       go (Running Between) h = refl
       go Empty h = refl
@@ -113,6 +143,34 @@ module _ (a : Address) (d : Device) where
       go : (t : Bool) → Says (Whole (tipIn t)) ≡ Says (Whole (if t then 1 else 0))
       go true = refl
       go false = refl
+
+  -- 02, W-206: p0 to p6 "reported by ?32 to ?38"
+  abbrev told : ℕ → Told
+  told n = toldOf (Q.Value n) a (d .tip) (d .core)
+
+  pub q32-to-q38-tell-p0-to-p6 :
+      (let p = d .core .body .settings .detection in
+      told 32 ∷ told 33 ∷ told 34 ∷ told 35 ∷ told 36 ∷ told 37 ∷ told 38 ∷ []
+      ≡ Says (Whole (p .threshold))
+      ∷ Says (Whole (p .duration))
+      ∷ Says (Whole (p .place))
+      ∷ Says (Tenths (p .speed))
+      ∷ Says (Whole (p .most))
+      ∷ Says (Whole (p .mode))
+      ∷ Says (Whole (p .interval))
+      ∷ [])
+  unfolding tellOf valueOf aspectIn
+  q32-to-q38-tell-p0-to-p6 = refl
+
+  -- ?0 is p2 while B moves there
+  pub the-goal-of-B-is-p2 : (t : Travel) (z : ℕ) → d .core .course .state ≡ Running (Approaching t z) → told 0 ≡ Says (Whole (t .goal))
+  unfolding tellOf valueOf goalIn
+  the-goal-of-B-is-p2 t z e = rw e
+
+  -- and the plunger while it searches
+  pub a-search-has-no-goal : (f : Search) → d .core .course .state ≡ Running (Searching f) → told 0 ≡ Says (Whole (d .core .body .plunger))
+  unfolding tellOf valueOf goalIn
+  a-search-has-no-goal f e = rw e
 
   -- "29 .. `0` or `1`: busy": wherever it isn't ready
   pub busy-is-not-ready : toldOf (Q.Value 29) a (d .tip) (d .core) ≡ Says (Whole (if readyOf (d .core) then 0 else 1))

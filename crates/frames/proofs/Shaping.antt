@@ -1,5 +1,5 @@
--- Theorem: "v, c, L and K are kept and reported and don't shape motion": a tick does the same whatever they are. With 02, W-205, it asks one thing of v: whether it is above V.
-use mathlib.Core.Path.{_≡_, refl, sym, ap, _∙_}
+-- Theorem: "v, c, L and K are kept and reported and don't shape motion": a tick does the same whatever they are, and whatever p6 is (02, W-206). With W-205 it asks one thing of v: whether it is above V.
+use mathlib.Core.Path.{_≡_, refl, sym, ap, subst, _∙_}
 use mathlib.Core.Bool.{Bool, true, false}
 use mathlib.Core.List.{List}
 use Prim.Native.Nat.{ℕ}
@@ -8,25 +8,38 @@ use lib.ListN.{take}
 use Rattle.basics.specs.Choice.{if_then_else_}
 use Rattle.settings.specs.declared.Volume.{Volume}
 use Rattle.settings.specs.declared.Pace.the-variants.{Top, Start, Cutoff}
+use Rattle.settings.specs.declared.Aspect.{Aspect}
+use Rattle.settings.specs.declared.Aspect.the-variants.{Threshold, Duration, Place, Speed, Most, Mode, Interval}
+use Rattle.settings.specs.Limits.{aspectSet}
 use Rattle.settings.specs.Units.{millionthsOf, goalOf, ticksOf}
 use Rattle.command.specs.declared.Way.{Way}
 use Rattle.command.specs.declared.Command.{Command}
 use Rattle.command.specs.declared.Command.the-variants as C
-use Rattle.command.specs.declared.refusal.Verdict.{Verdict}
 use Rattle.command.specs.declared.Found.{Found}
 use Rattle.command.specs.declared.Found.the-variants as F
 use Rattle.command.specs.Command.{commandAt}
+use Rattle.level.specs.declared.Pressure.{Pressure}
+use Rattle.level.specs.declared.Pressure.the-variants.{Beyond, Counts}
+use Rattle.settings.specs.declared.Detection.{Detection}
+use Rattle.level.specs.declared.Search.{Search}
+use Rattle.level.specs.declared.Sought.{Sought}
+use Rattle.level.specs.declared.Finding.{Finding}
+use Rattle.level.specs.declared.Finding.the-variants.{TooMuch, Missed}
+use Rattle.level.specs.declared.Finding.the-variants as Finding
+use Rattle.level.specs.Level.{leftOf, limitOf, goneIn, plungerIn, far, countWith, countedAs, findingOf, soughtOf}
 use Rattle.motion.specs.declared.Sense.{Sense}
 use Rattle.motion.specs.declared.Body.{Body}
 use Rattle.motion.specs.declared.Travel.{Travel}
 use Rattle.motion.specs.declared.Activity.{Activity}
-use Rattle.motion.specs.declared.Activity.the-variants.{Initialising, Moving, Delaying, Ejecting, Between}
+use Rattle.motion.specs.declared.Activity.the-variants.{Initialising, Moving, Delaying, Approaching, Searching, Ejecting, Between}
 use Rattle.motion.specs.declared.Target.{Target}
 use Rattle.motion.specs.declared.Target.the-variants.{At, Outside}
 use Rattle.motion.specs.declared.Effect.{Effect}
 use Rattle.motion.specs.declared.Effect.the-variants.{Goes, Ends, Fails, Asks, Opens, Closes}
-use Rattle.motion.specs.Events.{Event, Turn}
-use Rattle.motion.specs.Motion.{laterOf, plungerOf, bodySet, settingsOf, homeOf, targetOf, setOut, aimed, moveOf, delayOf, ejectOf, effectOf, carried, waitedOf, ejectedOf, between, onwardOf}
+use Rattle.motion.specs.Events.{Turn, quiet}
+use Rattle.motion.specs.Bodies.{laterOf, plungerOf, bodyAt, bodySet}
+use Rattle.motion.specs.Detect.{feltIn, approachOf, zeroedOf, noWayDown, detectOf, approachedOf, foundAs, searchedOf}
+use Rattle.motion.specs.Motion.{settingsOf, detectingOf, setTo, homeOf, targetOf, setOut, aimed, moveOf, delayOf, ejectOf, effectOf, carried, waitedOf, ejectedOf, between, onwardOf}
 use Rattle.buffer.specs.declared.course.State.{State}
 use Rattle.buffer.specs.declared.course.State.the-variants.{Empty, Stored, Running, Stopped, Done}
 use Rattle.buffer.specs.declared.course.Course.{Course}
@@ -40,9 +53,9 @@ use Rattle.machine.specs.declared.Turned.{Turned}
 use Rattle.machine.specs.Step.{around, core, stepped, wentOf, appliedOf, takenOf, carriedOn, runningOf, activeOf, stepOf}
 use Rattle.machine.specs.Device.{device, tickOf}
 
--- what is left of a body without them: the plunger, the exact position, "initialised", V and C
+-- what is left of a body without them: the plunger, the exact position, "initialised", V, C and p0 to p5
 abbrev shape : Body → Body
-shape b = bodySet (settingsOf (b .settings .top) 0 0 0 0 0 (b .settings .rate)) b
+shape b = bodySet (settingsOf (b .settings .top) 0 0 0 0 0 (b .settings .rate) (aspectSet Interval 0 (b .settings .detection))) b
 
 abbrev shapeOf : Effect → Effect
 shapeOf (Goes b a) = Goes (shape b) a
@@ -71,10 +84,10 @@ either : {A : Type 0} (f : A → A) (x : Bool) (a b c d : Turn A) → Same f a c
 either f true a b c d p q = p
 either f false a b c d p q = q
 
-module _ (v c up down k : ℕ) (sense : Sense) where
+module _ (v c up down k i : ℕ) (sense : Sense) where
   -- a body with others in their place
   abbrev other : Body → Body
-  other b = bodySet (settingsOf (b .settings .top) v c up down k (b .settings .rate)) b
+  other b = bodySet (settingsOf (b .settings .top) v c up down k (b .settings .rate) (aspectSet Interval i (b .settings .detection))) b
 
   abbrev otherIn : Core → Core
   otherIn x = core (other (x .body)) (x .course)
@@ -84,12 +97,45 @@ module _ (v c up down k : ℕ) (sense : Sense) where
   aimed-same (At exact) way n b = record { next = whichever shapeOf (eqb (b .plunger) (goalOf exact)) _ _ _ _ refl refl; events = refl }
   aimed-same Outside way n b = record { next = refl; events = refl }
 
+  -- B, and its ticks
+  zeroed-same : (here : Bool) (p : Pressure) (b : Body) → Same shapeOf (zeroedOf here p (other b)) (zeroedOf here p b)
+  unfolding zeroedOf approachOf
+  zeroed-same here Beyond b = record { next = refl; events = refl }
+  zeroed-same true (Counts z) b = record { next = refl; events = refl }
+  zeroed-same false (Counts z) b = record { next = whichever shapeOf (eqb (b .plunger) (b .settings .detection .place)) _ _ _ _ refl refl; events = refl }
+
+  approached-same : (p : Pressure) (t : Travel) (z : ℕ) (b : Body) → Same shapeOf (approachedOf p t z (other b)) (approachedOf p t z b)
+  unfolding approachedOf
+  approached-same Beyond t z b = record { next = refl; events = refl }
+  approached-same (Counts r) t z b = record { next = whichever shapeOf (eqb (b .plunger) (t .goal)) _ _ _ _ refl refl; events = refl }
+
+  found-same : (f : Finding) (b : Body) → Same shapeOf (foundAs f (other b)) (foundAs f b)
+  unfolding foundAs
+  found-same TooMuch b = record { next = refl; events = refl }
+  found-same Finding.Found b = record { next = refl; events = refl }
+  found-same Missed b = record { next = refl; events = refl }
+  found-same (Finding.On f) b = record { next = refl; events = refl }
+
+  sought-same : (d : Detection) (f : Search) (p : Pressure) → soughtOf (aspectSet Interval i d) f p ≡ soughtOf d f p
+  unfolding soughtOf plungerIn goneIn limitOf leftOf findingOf countedAs countWith far
+  sought-same d f Beyond = refl
+  sought-same d f (Counts r) = refl
+
+  set-same : (a : Aspect) (n : ℕ) (b : Body) → Same shapeOf (quiet (setTo (detectingOf a n (other b .settings)) (other b))) (quiet (setTo (detectingOf a n (b .settings)) b))
+  set-same Threshold n b = record { next = refl; events = refl }
+  set-same Duration n b = record { next = refl; events = refl }
+  set-same Place n b = record { next = refl; events = refl }
+  set-same Speed n b = record { next = refl; events = refl }
+  set-same Most n b = record { next = refl; events = refl }
+  set-same Mode n b = record { next = refl; events = refl }
+  set-same Interval n b = record { next = refl; events = refl }
+
   -- v is above V in both or in neither
   abbrev AsBefore : Body → Type 0
   AsBefore b = ltb (b .settings .top) v ≡ ltb (b .settings .top) (b .settings .start)
 
   effect-same : (x : Command) (b : Body) → AsBefore b → Same shapeOf (effectOf sense x (other b)) (effectOf sense x b)
-  unfolding effectOf homeOf moveOf delayOf ejectOf
+  unfolding effectOf homeOf moveOf delayOf ejectOf detectOf noWayDown
   effect-same (C.Initialise speed) b s = record { next = whichever shapeOf (eqb (b .plunger) 0) _ _ _ _ refl refl; events = refl }
   effect-same (C.Move way n) b s =
       rw s
@@ -105,6 +151,11 @@ module _ (v c up down k : ℕ) (sense : Sense) where
   effect-same (C.Backlash n) b s = record { next = refl; events = refl }
   effect-same (C.Compensate n way) b s = record { next = refl; events = refl }
   effect-same (C.Delay ms) b s = record { next = whichever shapeOf (eqb (ticksOf ms) 0) _ _ _ _ refl refl; events = refl }
+  effect-same (C.Set a n) b s = set-same a n b
+  effect-same (C.Detect here) b s =
+      either shapeOf (b .initialised) _ _ _ _
+      (either shapeOf (noWayDown (b .settings .detection)) _ _ _ _ (record { next = refl; events = refl }) (zeroed-same here (feltIn sense) b))
+      (record { next = refl; events = refl })
   effect-same (C.Eject true) b s = record { next = whichever shapeOf (b .initialised) _ _ _ _ refl refl; events = refl }
   effect-same (C.Eject false) b s = record { next = whichever shapeOf (sense .tip) _ _ _ _ refl refl; events = refl }
   effect-same C.Open b s = record { next = refl; events = refl }
@@ -115,10 +166,16 @@ module _ (v c up down k : ℕ) (sense : Sense) where
   carried-same kind known t b = whichever shapeOf (eqb (plungerOf t) (t .goal)) _ _ _ _ refl refl
 
   onward-same : (a : Activity) (b : Body) → Same shapeOf (onwardOf sense a (other b)) (onwardOf sense a b)
-  unfolding onwardOf waitedOf ejectedOf
+  unfolding onwardOf waitedOf ejectedOf searchedOf
   onward-same (Initialising t) b = record { next = carried-same Initialising true (laterOf t) b; events = refl }
   onward-same (Moving t) b = record { next = carried-same Moving (b .initialised) (laterOf t) b; events = refl }
   onward-same (Delaying n) b = record { next = whichever shapeOf (leb n 1) _ _ _ _ refl refl; events = refl }
+  onward-same (Approaching t z) b = approached-same (feltIn sense) (laterOf t) z (bodyAt (plungerOf (laterOf t)) b)
+  onward-same (Searching f) b =
+      let t = soughtOf (b .settings .detection) f (feltIn sense) in
+      subst (λ (u : Sought). Same shapeOf (foundAs (u .finding) (bodyAt (u .plunger) (other b))) (foundAs (t .finding) (bodyAt (t .plunger) b)))
+      (sym (sought-same (b .settings .detection) f (feltIn sense)))
+      (found-same (t .finding) (bodyAt (t .plunger) b))
   onward-same Ejecting b = record { next = whichever shapeOf (sense .tip) _ _ _ _ refl refl; events = refl }
   onward-same Between b = record { next = refl; events = refl }
 
@@ -161,7 +218,7 @@ module _ (v c up down k : ℕ) (sense : Sense) where
   active-same Stopped text x h = record { next = refl; events = refl }
   active-same Done text x h = record { next = refl; events = refl }
 
--- two ticks that leave all but v, c, L and K the same: where the plunger is and is to be, what is in progress and how far, the run, V, C and the history
+-- two ticks that leave all but v, c, L, K and p6 the same: where the plunger is and is to be, what is in progress and how far, the run, V, C and the history
 pub record SameMotion (t u : Turn Turned) : Type 0 where
   pub plunger : t .next .device .core .body .plunger ≡ u .next .device .core .body .plunger
   pub exact : t .next .device .core .body .exact ≡ u .next .device .core .body .exact
@@ -172,12 +229,12 @@ pub record SameMotion (t u : Turn Turned) : Type 0 where
   pub news : t .next .news ≡ u .next .news
   pub events : t .events ≡ u .events
 
-pub v-c-L-and-K-do-not-shape-motion :
-    (v c up down k : ℕ) (s : Sense) (d : Device) → ltb (d .core .body .settings .top) v ≡ ltb (d .core .body .settings .top) (d .core .body .settings .start) →
-    SameMotion (tickOf s (device (d .text) (d .tip) (core (bodySet (settingsOf (d .core .body .settings .top) v c up down k (d .core .body .settings .rate)) (d .core .body)) (d .core .course)))) (tickOf s d)
+pub v-c-L-K-and-p6-do-not-shape-motion :
+    (v c up down k i : ℕ) (s : Sense) (d : Device) → ltb (d .core .body .settings .top) v ≡ ltb (d .core .body .settings .top) (d .core .body .settings .start) →
+    SameMotion (tickOf s (device (d .text) (d .tip) (core (bodySet (settingsOf (d .core .body .settings .top) v c up down k (d .core .body .settings .rate) (aspectSet Interval i (d .core .body .settings .detection))) (d .core .body)) (d .core .course)))) (tickOf s d)
 unfolding tickOf stepOf
-v-c-L-and-K-do-not-shape-motion v c up down k x d above =
-    let s = active-same v c up down k x (d .core .course .state) (d .text) (d .core) above in
+v-c-L-K-and-p6-do-not-shape-motion v c up down k i x d above =
+    let s = active-same v c up down k i x (d .core .course .state) (d .text) (d .core) above in
     record {
       plunger = ap (λ (x : Stepped). x .core .body .plunger) (s .next);
       exact = ap (λ (x : Stepped). x .core .body .exact) (s .next);

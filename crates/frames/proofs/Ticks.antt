@@ -11,7 +11,7 @@ use Rattle.machine.specs.declared.step.Core.{Core}
 use Rattle.machine.specs.declared.step.Stepped.{Stepped}
 use Rattle.machine.specs.Step.{Around, around, stepOf}
 use Rattle.machine.specs.Device.{tickOf}
-use Rattle.machine.proofs.Ways.{Ways, step-by}
+use Rattle.machine.proofs.Ways.{step-by}
 use Rattle.pipettor.specs.declared.Controller.{Controller}
 use Rattle.pipettor.specs.Controller.{tickedOf}
 

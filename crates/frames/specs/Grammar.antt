@@ -19,9 +19,9 @@ abbrev pub isAmong : ℕ → List ℕ → Bool
 isAmong b [] = false
 isAmong b (x ∷ xs) = eqb b x || isAmong b xs
 
--- "Commands: W A P D V v c L K b G g M"
+-- "Commands: W A P D V v c L K b G g M"; 02 adds E (W-203), p and B (W-206)
 abbrev pub letters : List ℕ
-letters = 87 ∷ 65 ∷ 80 ∷ 68 ∷ 86 ∷ 118 ∷ 99 ∷ 76 ∷ 75 ∷ 98 ∷ 77 ∷ 69 ∷ 103 ∷ 71 ∷ []
+letters = 87 ∷ 65 ∷ 80 ∷ 68 ∷ 86 ∷ 118 ∷ 99 ∷ 76 ∷ 75 ∷ 98 ∷ 77 ∷ 112 ∷ 66 ∷ 69 ∷ 103 ∷ 71 ∷ []
 
 -- "An operand text is the longest run of digits, points and commas after a letter": what follows it begins with none of them
 abbrev pub Ended : List ℕ → Type 0

@@ -1,7 +1,6 @@
 -- 02, W-203: a controller with another tip, and the one frame that tells.
 use Prim.Native.Nat.{ℕ}
 use mathlib.Core.Bool.{Bool, false}
-use mathlib.Core.List.{List}
 use lib.Dec.{eqb}
 use Rattle.text.specs.declared.Question.the-variants as Q
 use Rattle.text.specs.declared.Data.the-variants as D

@@ -1,7 +1,6 @@
 -- Laws of `specs/Device`, one for each return of the code.
-use mathlib.Core.Path.{_≡_, refl, sym, ap, _∙_}
+use mathlib.Core.Path.{_≡_, ap, _∙_}
 use mathlib.Core.Bool.{Bool, false}
-use mathlib.Core.List.{List}
 use Prim.Native.Nat.{ℕ, _≤_, _<_}
 use borrow.Author.Tests.{lt-ltb, le-ltb, ne-eqb}
 use lib.ListN.{replicate}
@@ -17,7 +16,7 @@ use Rattle.machine.specs.declared.Turned.{Turned}
 use Rattle.machine.specs.declared.Used.the-variants.{Ticks, S3}
 use Rattle.buffer.specs.Course.{courseOf, noLoops}
 use Rattle.machine.specs.Step.{around, core, fine, nextOf}
-use Rattle.machine.specs.Run.{ticksOf, usedOf, runOf}
+use Rattle.machine.specs.Run.{ticksOf, runOf}
 use Rattle.machine.specs.Act.{stopOf}
 use Rattle.machine.specs.Device.{device, freshOf, tipAfter, turned, tickOf, haltedOf, advanceOf, ranOf}
 use Rattle.machine.proofs.Runs.{used-ticks}

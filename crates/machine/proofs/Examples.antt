@@ -16,6 +16,7 @@ use Rattle.command.specs.Command.{placed, foundIn, commandAt}
 use Rattle.text.specs.Text.{readFrom, readOf}
 use Rattle.text.specs.Loops.{levelOf, levels, loopsOk}
 use Rattle.motion.specs.Events.{Event, start, volume}
+use Rattle.motion.specs.Bodies.{plungerOf, nothingSensed}
 use Rattle.motion.specs.Motion as Motion
 use Rattle.buffer.specs.declared.order.Action.the-variants.{Launch}
 use Rattle.buffer.specs.Course.{reached, halted}
@@ -28,7 +29,7 @@ use Rattle.machine.specs.History.Call.{tick, act, stop}
 
 -- a text is run for so many ticks, and then some more calls
 abbrev runs : String → ℕ → List Call → List Call
-runs text n more = act Launch (chars text) ∷ (replicate n (tick (record { tip = false })) ++ more)
+runs text n more = act Launch (chars text) ∷ (replicate n (tick nothingSensed) ++ more)
 
 pub record Shown : Type 0 where
   pub plunger : ℕ
@@ -55,5 +56,5 @@ pub histories-move :
     ∷ shows 20 20175000 (start 0 ∷ start 0 ∷ start 40350000 ∷ nL 500 40350 false ∷ [])
     ∷ shows 80 80000000 (start 0 ∷ start 0 ∷ start 500000000 ∷ start 80000000 ∷ [])
     ∷ []
-unfolding digit every valueOf over fits laidIn within rateOf millionthsOf goalOf goneOf run rest digits decimalsOf followedOf numberOf behindComma pairOf letterOf allowed takenOf wholeOf nanolitresOf made both inUnit volumeOf compensationOf commandOf placed foundIn commandAt readFrom readOf levelOf levels loopsOk Motion.plungerOf Motion.homeOf Motion.within Motion.targetOf Motion.setOut Motion.aimed Motion.moveOf Motion.effectOf Motion.carried Motion.onwardOf Motion.cutOf Motion.freshBody reached Step.appliedOf Step.takenOf Step.carriedOn Step.runningOf Step.activeOf Step.stepOf cellOf loopsBy sized verdictOf halted haltOf stopOf changedOf doneOf laidBy storedBy actedOf actOf freshOf tickOf haltedOf callOf afterOf eventsOf after history
+unfolding digit every valueOf over fits laidIn within rateOf millionthsOf goalOf goneOf run rest digits decimalsOf followedOf numberOf behindComma pairOf letterOf allowed takenOf wholeOf nanolitresOf made both inUnit volumeOf compensationOf commandOf placed foundIn commandAt readFrom readOf levelOf levels loopsOk plungerOf Motion.homeOf Motion.within Motion.targetOf Motion.setOut Motion.aimed Motion.moveOf Motion.effectOf Motion.carried Motion.onwardOf Motion.cutOf Motion.freshBody reached Step.appliedOf Step.takenOf Step.carriedOn Step.runningOf Step.activeOf Step.stepOf cellOf loopsBy sized verdictOf halted haltOf stopOf changedOf doneOf laidBy storedBy actedOf actOf freshOf tickOf haltedOf callOf afterOf eventsOf after history
 histories-move = refl

@@ -12,17 +12,27 @@ use Rattle.basics.specs.Exactly.{Exactly}
 use Rattle.basics.proofs.Choice.{by}
 use Rattle.settings.specs.declared.Volume.{Volume}
 use Rattle.settings.specs.Units.{millionthsOf, goalOf, ticksOf}
+use Rattle.level.specs.declared.Pressure.{Pressure}
+use Rattle.level.specs.declared.Pressure.the-variants.{Beyond, Counts}
+use Rattle.level.specs.declared.Search.{Search}
+use Rattle.level.specs.declared.Finding.{Finding}
+use Rattle.level.specs.declared.Finding.the-variants as Found
+use Rattle.level.specs.Level as Level
+use Rattle.level.specs.Level.{plungerIn, findingOf, soughtOf}
+use Rattle.level.proofs.Ends.{found-shows, too-much-by}
 use Rattle.motion.specs.declared.Sense.{Sense}
 use Rattle.motion.specs.declared.Body.{Body}
 use Rattle.motion.specs.declared.Travel.{Travel}
 use Rattle.motion.specs.declared.Activity.{Activity}
-use Rattle.motion.specs.declared.Activity.the-variants.{Initialising, Moving, Delaying, Ejecting, Between}
+use Rattle.motion.specs.declared.Activity.the-variants.{Initialising, Moving, Delaying, Approaching, Searching, Ejecting, Between}
 use Rattle.motion.specs.declared.Target.{Target}
 use Rattle.motion.specs.declared.Target.the-variants as Target
 use Rattle.motion.specs.declared.Effect.{Effect}
 use Rattle.motion.specs.declared.Effect.the-variants.{Goes, Ends, Fails, Asks, Opens, Closes}
 use Rattle.motion.specs.Events.{Turn}
-use Rattle.motion.specs.Motion.{between, laterOf, plungerOf, homeOf, targetOf, setOut, aimed, moveOf, delayOf, ejectOf, effectOf, carried, waitedOf, ejectedOf, onwardOf}
+use Rattle.motion.specs.Bodies.{laterOf, plungerOf, bodyAt}
+use Rattle.motion.specs.Detect.{feltIn, noWayDown, approachOf, zeroedOf, detectOf, approachedOf, foundAs, searchedOf}
+use Rattle.motion.specs.Motion.{between, homeOf, targetOf, setOut, aimed, moveOf, delayOf, ejectOf, effectOf, carried, waitedOf, ejectedOf, onwardOf}
 use Rattle.command.specs.declared.refusal.Refusal.{Refusal}
 use Rattle.command.specs.declared.refusal.Refusal.the-variants as R
 use Rattle.command.specs.declared.refusal.Verdict.the-variants.{Fine, Refused}
@@ -48,9 +58,9 @@ use Rattle.text.proofs.Trees.{every-tree-is-accepted}
 use Rattle.text.proofs.Inside.{the-commands-before-a-place-read}
 use Rattle.machine.specs.History.{Call, after}
 use Rattle.machine.proofs.Looping.{closed-by}
-use Rattle.machine.proofs.Ways.{Ways, step-by}
+use Rattle.machine.proofs.Ways.{step-by}
 use Rattle.machine.proofs.OnWay.{ahead-of, way-room, way-ends, way-deep, way-start}
-use Rattle.machine.specs.OnCourse.{Meets, Failing, uninitialised, steep, outside, tipless, unready, Breaking, still-there, Takes, Cause, taken, judged, Fault, OnWay, Ahead, CourseOn, AllSent}
+use Rattle.machine.specs.OnCourse.{Meets, Failing, uninitialised, steep, outside, tipless, unready, unknown, no-way, no-zero, Breaking, still-there, halted-move, too-much, no-liquid, Takes, Cause, taken, judged, Fault, OnWay, Ahead, CourseOn, AllSent, leftBy, leftIn}
 use Rattle.machine.proofs.OnCourse.{Fits, effect-fits, onward-fits, every-device-is-on-course}
 
 -- what on course means: the text reads, its loops are right, and the commands before the run's place leave as many open as the run holds
@@ -100,6 +110,11 @@ never : {A : Type 0} (x : Bool) (b c d : Body) (a : Activity) (why : Refusal) �
 never true b c d a why e = never-ends b d why e
 never false b c d a why e = never-goes c d a why e
 
+-- nor does one between two ways of going on
+never-either : {A : Type 0} (x : Bool) (b c d : Body) (a k : Activity) (why : Refusal) → (if x then Goes b a else Goes c k) ≡ Fails why d → A
+never-either true b c d a k why e = never-goes b d a why e
+never-either false b c d a k why e = never-goes c d k why e
+
 -- with the body it found
 pub record FailsSo (x : Sense) (k : Command) (b : Body) (why : Refusal) (d : Body) : Type 0 where
   pub cause : Failing x k b why
@@ -113,8 +128,16 @@ aimed-fails Target.Outside way v b why d e = (cc, cc, refl)
 never-asks : {A : Type 0} (d : Body) (why : Refusal) → Asks ≡ Fails why d → A
 never-asks d why e = let z : _≡_ {A = ℕ} 0 1 = cc in absurd (omega arith)
 
+zeroed-fails :
+    (x : Sense) (here : Bool) (b : Body) (why : Refusal) (d : Body) → b .initialised ≡ true → noWayDown (b .settings .detection) ≡ false →
+    (p : Pressure) → feltIn x ≡ p → zeroedOf here p b .next ≡ Fails why d → FailsSo x (C.Detect here) b why d
+unfolding zeroedOf approachOf
+zeroed-fails x here b why d i n Beyond f e = let is : why ≡ R.TooMuchPressure = cc in let same : d ≡ b = cc in rw is (record { cause = no-zero here refl i n f; body = same })
+zeroed-fails x true b why d i n (Counts z) f e = never-goes _ d _ why e
+zeroed-fails x false b why d i n (Counts z) f e = never-either (eqb (b .plunger) (b .settings .detection .place)) _ _ d _ _ why e
+
 pub effect-fails : (x : Sense) (k : Command) (b : Body) (why : Refusal) (d : Body) → effectOf x k b .next ≡ Fails why d → FailsSo x k b why d
-unfolding effectOf homeOf moveOf delayOf ejectOf
+unfolding effectOf homeOf moveOf delayOf ejectOf detectOf
 effect-fails x (C.Initialise n) b why d = λ e. never (eqb (b .plunger) 0) _ _ d _ why e
 effect-fails x (C.Move way v) b why d =
     by (λ (e : Turn Effect). e .next ≡ Fails why d → FailsSo x (C.Move way v) b why d) (b .initialised)
@@ -130,6 +153,14 @@ effect-fails x (C.Slopes up down) b why d = λ e. never-ends _ d why e
 effect-fails x (C.Backlash n) b why d = λ e. never-ends _ d why e
 effect-fails x (C.Compensate n down) b why d = λ e. never-ends _ d why e
 effect-fails x (C.Delay ms) b why d = λ e. never (eqb (ticksOf ms) 0) _ _ d _ why e
+effect-fails x (C.Set a n) b why d = λ e. never-ends _ d why e
+effect-fails x (C.Detect here) b why d =
+    by (λ (e : Turn Effect). e .next ≡ Fails why d → FailsSo x (C.Detect here) b why d) (b .initialised)
+    (λ i.
+    by (λ (e : Turn Effect). e .next ≡ Fails why d → FailsSo x (C.Detect here) b why d) (noWayDown (b .settings .detection))
+    (λ h e. let is : why ≡ R.NoWayDown = cc in let same : d ≡ b = cc in rw is (record { cause = no-way here refl i h; body = same }))
+    (λ h. zeroed-fails x here b why d i h (feltIn x) refl))
+    (λ i e. let is : why ≡ R.NotInitialised = cc in let same : d ≡ b = cc in rw is (record { cause = unknown here refl i; body = same }))
 effect-fails x (C.Eject bare) b why d = go bare refl
   where
     go : (y : Bool) → bare ≡ y → (if y then (if b .initialised then Asks else Fails R.NotInitialised b) else (if x .tip then Asks else Fails R.NoTip b)) ≡ Fails why d → FailsSo x (C.Eject bare) b why d
@@ -150,14 +181,32 @@ unfolding carried
 carried-fails kind known t b why d e = never (eqb (plungerOf t) (t .goal)) _ _ d _ why e
 
 pub record BreaksSo (x : Sense) (a : Activity) (b : Body) (why : Refusal) (d : Body) : Type 0 where
-  pub cause : Breaking x a why
-  pub body : d ≡ b
+  pub cause : Breaking x b a why
+  pub body : d ≡ leftBy a b
+
+approached-fails :
+    (x : Sense) (t : Travel) (z : ℕ) (b : Body) (why : Refusal) (d : Body) (p : Pressure) → feltIn x ≡ p →
+    approachedOf p (laterOf t) z (bodyAt (plungerOf (laterOf t)) b) .next ≡ Fails why d → BreaksSo x (Approaching t z) b why d
+unfolding approachedOf
+approached-fails x t z b why d Beyond f e = let is : why ≡ R.TooMuchPressure = cc in rw is (record { cause = halted-move t z f; body = cc })
+approached-fails x t z b why d (Counts r) f e = never-either (eqb (plungerOf (laterOf t)) (t .goal)) _ _ d _ _ why e
+
+searched-fails :
+    (x : Sense) (s : Search) (b : Body) (why : Refusal) (d : Body) (f : Finding) → findingOf (b .settings .detection) (Level.laterOf s) (feltIn x) ≡ f →
+    foundAs f (bodyAt (plungerIn (b .settings .detection) (Level.laterOf s)) b) .next ≡ Fails why d → BreaksSo x (Searching s) b why d
+unfolding foundAs
+searched-fails x s b why d Found.TooMuch f e = let is : why ≡ R.TooMuchPressure = cc in rw is (record { cause = too-much s (found-shows (b .settings .detection) (Level.laterOf s) (feltIn x) Found.TooMuch f); body = cc })
+searched-fails x s b why d Found.Found f e = never-ends _ d why e
+searched-fails x s b why d Found.Missed f e = let is : why ≡ R.NoLiquid = cc in rw is (record { cause = no-liquid s f; body = cc })
+searched-fails x s b why d (Found.On t) f e = never-goes _ d _ why e
 
 onward-fails : (x : Sense) (a : Activity) (b : Body) (why : Refusal) (d : Body) → onwardOf x a b .next ≡ Fails why d → BreaksSo x a b why d
-unfolding onwardOf waitedOf ejectedOf
+unfolding onwardOf waitedOf ejectedOf searchedOf soughtOf
 onward-fails x (Initialising t) b why d = λ e. carried-fails Initialising true (laterOf t) b why d e
 onward-fails x (Moving t) b why d = λ e. carried-fails Moving (b .initialised) (laterOf t) b why d e
 onward-fails x (Delaying k) b why d = λ e. never (leb k 1) _ _ d _ why e
+onward-fails x (Approaching t z) b why d = approached-fails x t z b why d (feltIn x) refl
+onward-fails x (Searching s) b why d = searched-fails x s b why d (findingOf (b .settings .detection) (Level.laterOf s) (feltIn x)) refl
 onward-fails x Ejecting b why d =
     by (λ (e : Effect). e ≡ Fails why d → BreaksSo x Ejecting b why d) (x .tip)
     (λ h e. let is : why ≡ R.StillThere = cc in let same : d ≡ b = cc in rw is (record { cause = still-there h; body = same }))
@@ -205,17 +254,19 @@ pub step-takes : (text : List ℕ) (x : Sense) (c : Core) (k : Command) (t : Tak
 unfolding stepOf activeOf runningOf takenOf
 step-takes text x c k t = rw (t .between, t .found)
 
-step-fails :
-    (text : List ℕ) (x : Sense) (c : Core) (k : Command) (why : Refusal) → Takes text c k → effectOf x k (c .body) .next ≡ Fails why (c .body) →
-    stepOf (around text x) c .next ≡ fails why (c .body) (c .course)
-unfolding appliedOf
-step-fails text x c k why t e = step-takes text x c k t ∙ ap (λ (f : Effect). appliedOf f (t .next) c) e
+module _ (text : List ℕ) (x : Sense) (c : Core) (why : Refusal) where
+  step-fails : (k : Command) → Takes text c k → effectOf x k (c .body) .next ≡ Fails why (c .body) → stepOf (around text x) c .next ≡ fails why (leftIn (c .course .state) (c .body)) (c .course)
+  unfolding appliedOf
+  step-fails k t e =
+      step-takes text x c k t
+      ∙ ap (λ (f : Effect). appliedOf f (t .next) c) e
+      ∙ ap (λ (s : State). fails why (leftIn s (c .body)) (c .course)) (sym (t .between))
 
-step-breaks :
-    (text : List ℕ) (x : Sense) (c : Core) (a : Activity) (why : Refusal) → c .course .state ≡ Running a → between a ≡ false → onwardOf x a (c .body) .next ≡ Fails why (c .body) →
-    stepOf (around text x) c .next ≡ fails why (c .body) (c .course)
-unfolding stepOf activeOf runningOf carriedOn appliedOf
-step-breaks text x c a why s n e = rw (s, n, e)
+  step-breaks :
+      (a : Activity) → c .course .state ≡ Running a → between a ≡ false → onwardOf x a (c .body) .next ≡ Fails why (leftBy a (c .body)) →
+      stepOf (around text x) c .next ≡ fails why (leftIn (c .course .state) (c .body)) (c .course)
+  unfolding stepOf activeOf runningOf carriedOn appliedOf
+  step-breaks a s n e = rw (s, n, e)
 
 module _ (text : List ℕ) (x : Sense) (c : Core) where
   taken-fails : c .course .state ≡ Running Between → CourseOn text (c .course) → (f : Found) → commandAt (take (c .course .len) text) (c .course .at) ≡ f → takenOf x f c .next .core .course .state ≡ Empty → Fault text x c
@@ -226,7 +277,7 @@ module _ (text : List ℕ) (x : Sense) (c : Core) where
       let (why, d, is) = erased-by c (partOf (m .command)) (m .next) (m .shallow) (λ n is z. omega (arith, m .back n is .deep)) (effectOf x (m .command) (c .body) .next) (effect-fits x (m .command) (c .body)) (rw q at h) in
       let so = effect-fails x (m .command) (c .body) why d is in
       let takes : Takes text c (m .command) = record { next = m .next; between = s; found = m .found } in
-      record { refusal = why; why = taken (m .command) takes (so .cause); so = step-fails text x c (m .command) why takes (is ∙ ap (Fails why) (so .body)) }
+      record { refusal = why; why = taken (m .command) takes (so .cause); so = step-fails text x c why (m .command) takes (is ∙ ap (Fails why) (so .body)) }
 
   carried-breaks : (a : Activity) → c .course .state ≡ Running a → between a ≡ false → carriedOn x a c .next .core .course .state ≡ Empty → Fault text x c
   unfolding carriedOn
@@ -235,7 +286,7 @@ module _ (text : List ℕ) (x : Sense) (c : Core) where
       let y : plain ≡ opens → c .course .loops .depth < 4 = λ e. (let z : _≡_ {A = ℕ} 0 1 = cc in absurd (omega arith)) in
       let (why, d, is) = erased-by c plain (c .course .at) y z (onwardOf x a (c .body) .next) (onward-fits x a (c .body)) h in
       let so = onward-fails x a (c .body) why d is in
-      record { refusal = why; why = judged a s (so .cause); so = step-breaks text x c a why s n (is ∙ ap (Fails why) (so .body)) }
+      record { refusal = why; why = judged a s (so .cause); so = step-breaks text x c why a s n (is ∙ ap (Fails why) (so .body)) }
 
   running-fails : (a : Activity) → c .course .state ≡ Running a → CourseOn text (c .course) → runningOf a (around text x) c .next .core .course .state ≡ Empty → Fault text x c
   unfolding runningOf
@@ -243,6 +294,8 @@ module _ (text : List ℕ) (x : Sense) (c : Core) where
   running-fails (Initialising t) s o h = carried-breaks (Initialising t) s refl h
   running-fails (Moving t) s o h = carried-breaks (Moving t) s refl h
   running-fails (Delaying k) s o h = carried-breaks (Delaying k) s refl h
+  running-fails (Approaching t z) s o h = carried-breaks (Approaching t z) s refl h
+  running-fails (Searching f) s o h = carried-breaks (Searching f) s refl h
   running-fails Ejecting s o h = carried-breaks Ejecting s refl h
 
   pub a-run-fails-for-a-cause : (a : Activity) → c .course .state ≡ Running a → CourseOn text (c .course) → stepOf (around text x) c .next .core .course .state ≡ Empty → Fault text x c
@@ -251,20 +304,27 @@ module _ (text : List ℕ) (x : Sense) (c : Core) where
 
 -- and the other way: where there is a cause the tick fails, with that refusal
 pub must-fail : (x : Sense) (k : Command) (b : Body) (why : Refusal) → Failing x k b why → effectOf x k b .next ≡ Fails why b
-unfolding effectOf moveOf aimed ejectOf
+unfolding effectOf moveOf aimed ejectOf detectOf zeroedOf
 must-fail x k b why (uninitialised way v e i) = rw (e, i)
 must-fail x k b why (steep way v e i s) = rw (e, i, lt-ltb (b .settings .top) (b .settings .start) s)
 must-fail x k b why (outside way v e i flat out) = rw (e, i, le-ltb (b .settings .top) (b .settings .start) flat, out)
 must-fail x k b why (tipless e t) = rw (e, t)
 must-fail x k b why (unready e i) = rw (e, i)
+must-fail x k b why (unknown here e i) = rw (e, i)
+must-fail x k b why (no-way here e i n) = rw (e, i, n)
+must-fail x k b why (no-zero here e i n f) = rw (e, i, n, f)
 
-must-break : (x : Sense) (a : Activity) (b : Body) (why : Refusal) → Breaking x a why → (onwardOf x a b .next ≡ Fails why b) × (between a ≡ false)
-unfolding onwardOf ejectedOf
+must-break : (x : Sense) (a : Activity) (b : Body) (why : Refusal) → Breaking x b a why → (onwardOf x a b .next ≡ Fails why (leftBy a b)) × (between a ≡ false)
+unfolding onwardOf ejectedOf approachedOf searchedOf soughtOf foundAs
 must-break x a b why (still-there t) = (rw t, refl)
+must-break x a b why (halted-move t z f) = (rw f, refl)
+must-break x a b why (too-much s f) = (rw (too-much-by (b .settings .detection) (Level.laterOf s) (feltIn x) f), refl)
+must-break x a b why (no-liquid s f) = (rw f, refl)
 
-pub where-there-is-a-cause-the-run-fails : (text : List ℕ) (x : Sense) (c : Core) (why : Refusal) → Cause text x c why → stepOf (around text x) c .next ≡ fails why (c .body) (c .course)
-where-there-is-a-cause-the-run-fails text x c why (taken k t w) = step-fails text x c k why t (must-fail x k (c .body) why w)
-where-there-is-a-cause-the-run-fails text x c why (judged a s w) = let (e, n) = must-break x a (c .body) why w in step-breaks text x c a why s n e
+pub where-there-is-a-cause-the-run-fails :
+    (text : List ℕ) (x : Sense) (c : Core) (why : Refusal) → Cause text x c why → stepOf (around text x) c .next ≡ fails why (leftIn (c .course .state) (c .body)) (c .course)
+where-there-is-a-cause-the-run-fails text x c why (taken k t w) = step-fails text x c why k t (must-fail x k (c .body) why w)
+where-there-is-a-cause-the-run-fails text x c why (judged a s w) = let (e, n) = must-break x a (c .body) why w in step-breaks text x c why a s n e
 
 -- a tick tells of a failure exactly where there is a cause
 fine-is-not-refused : {A : Type 0} (why : Refusal) → Fine ≡ Refused why → A

@@ -88,7 +88,7 @@ module _ (calls : List Call) where
   -- "Whenever no movement is in progress the plunger stands within half an increment of the exact position"
   pub the-plunger-stands-near-the-exact-position : moving (after calls .core .course .state) ≡ false → Near (after calls .core .body .plunger) (after calls .core .body .exact)
   the-plunger-stands-near-the-exact-position still =
-      rw (at-rest (after calls .core .course .state) (after calls .core .body .plunger) still) at (sound calls .told .near)
+      rw (at-rest (after calls .core .course .state) (after calls .core .body .plunger) (after calls .core .body .exact) still) at (sound calls .told .near)
 
   -- both in one, of the plunger and the history alone
   pub the-plunger-stands-by-the-history : moving (after calls .core .course .state) ≡ false → StandsBy (after calls .core .body .plunger) (sumOf (history calls))

@@ -21,12 +21,14 @@ use Rattle.motion.specs.declared.Travel.{Travel}
 use Rattle.motion.specs.declared.Target.{Target}
 use Rattle.motion.specs.declared.Target.the-variants.{At, Outside}
 use Rattle.motion.specs.declared.Activity.{Activity}
-use Rattle.motion.specs.declared.Activity.the-variants.{Initialising, Moving, Delaying, Ejecting, Between}
+use Rattle.motion.specs.declared.Activity.the-variants.{Initialising, Moving, Delaying, Approaching, Searching, Ejecting, Between}
 use Rattle.motion.specs.declared.Effect.{Effect}
 use Rattle.motion.specs.declared.Effect.the-variants.{Goes, Ends, Fails, Asks, Opens, Closes}
 use Rattle.motion.specs.Events.{Turn}
-use Rattle.motion.specs.Motion.{laterOf, plungerOf, homeOf, targetOf, setOut, aimed, delayOf, effectOf, carried, waitedOf, onwardOf, between, cutOf}
-use Rattle.motion.proofs.Moves.{move-by, eject-by, ejected-by}
+use Rattle.motion.specs.Bodies.{laterOf, plungerOf}
+use Rattle.motion.specs.Detect.{feltIn, searchedOf}
+use Rattle.motion.specs.Motion.{homeOf, targetOf, setOut, aimed, delayOf, effectOf, carried, waitedOf, onwardOf, between, cutOf}
+use Rattle.motion.proofs.Moves.{move-by, eject-by, ejected-by, detect-by, approached-by, found-by}
 use Rattle.buffer.specs.declared.course.State.{State}
 use Rattle.buffer.specs.declared.course.State.the-variants.{Empty, Stored, Running, Stopped, Done}
 use Rattle.buffer.specs.declared.course.Loops.{Loops}
@@ -54,6 +56,8 @@ abbrev HomesBy : Activity → Body → Type 0
 HomesBy (Initialising t) b = b .initialised ≡ false
 HomesBy (Moving t) b = Unit {0}
 HomesBy (Delaying k) b = Unit {0}
+HomesBy (Approaching t z) b = Unit {0}
+HomesBy (Searching f) b = Unit {0}
 HomesBy Ejecting b = Unit {0}
 HomesBy Between b = Unit {0}
 
@@ -92,16 +96,20 @@ module _ (b : Body) where
   effect-homes x (Command.Backlash n) = tt
   effect-homes x (Command.Compensate n down) = tt
   effect-homes x (Command.Delay ms) = by EffectHomes (eqb (ticksOf ms) 0) (λ h. tt) (λ h. tt)
+  effect-homes x (Command.Set a n) = tt
+  effect-homes x (Command.Detect here) = detect-by (λ (t : Turn Effect). EffectHomes (t .next)) b (λ why. tt) (λ z. tt) (λ z. tt) (λ z. tt) here x
   effect-homes x (Command.Eject bare) = eject-by EffectHomes bare x b (λ why. tt) tt
   effect-homes x Command.Open = tt
   effect-homes x (Command.Close n) = tt
 
   -- a tick of what is in progress
   onward-homes : (x : Sense) (a : Activity) → HomesBy a b → EffectHomes (onwardOf x a b .next)
-  unfolding onwardOf carried waitedOf
+  unfolding onwardOf carried waitedOf searchedOf
   onward-homes x (Initialising t) h = by EffectHomes (eqb (plungerOf (laterOf t)) (t .goal)) (λ e. tt) (λ e. h)
   onward-homes x (Moving t) h = by EffectHomes (eqb (plungerOf (laterOf t)) (t .goal)) (λ e. tt) (λ e. tt)
   onward-homes x (Delaying k) h = by EffectHomes (leb k 1) (λ e. tt) (λ e. tt)
+  onward-homes x (Approaching t z) h = approached-by (λ (e : Turn Effect). EffectHomes (e .next)) (feltIn x) (laterOf t) z _ tt tt tt
+  onward-homes x (Searching f) h = found-by (λ (e : Turn Effect). EffectHomes (e .next)) _ tt (λ why. tt) (λ s. tt) _
   onward-homes x Ejecting h = ejected-by EffectHomes x b tt tt
   onward-homes x Between h = tt
 

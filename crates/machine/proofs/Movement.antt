@@ -14,7 +14,8 @@ use Rattle.motion.specs.declared.Travel.{Travel}
 use Rattle.motion.specs.declared.Activity.{Activity}
 use Rattle.motion.specs.declared.Activity.the-variants.{Initialising, Moving}
 use Rattle.motion.specs.Bounds.{TravelOk, ActivityOk}
-use Rattle.motion.specs.Motion.{laterOf, plungerOf, bodyAt, bodyKnown, carried, onwardOf}
+use Rattle.motion.specs.Bodies.{laterOf, plungerOf, bodyAt, bodyKnown}
+use Rattle.motion.specs.Motion.{carried, onwardOf}
 use Rattle.buffer.specs.declared.course.State.{State}
 use Rattle.buffer.specs.declared.course.State.the-variants.{Running}
 use Rattle.buffer.specs.declared.course.Course.{Course}

@@ -1,10 +1,10 @@
 -- Theorems: the fresh device is on course, every call keeps it there, and so does any list of calls.
-use mathlib.Core.Path.{_≡_, refl, sym, ap, subst, _∙_}
+use mathlib.Core.Path.{_≡_, refl, sym, subst, _∙_}
 use mathlib.Core.Bool.{Bool, true, false}
 use mathlib.Core.List.{List, [], _∷_, _++_, append-nil}
-use Prim.Native.Nat.{ℕ, _+_, _-_, _≤_, _<_}
+use Prim.Native.Nat.{ℕ, _+_, _≤_, _<_}
 use native.Mathlib.Omega.{arith}
-use borrow.Author.Tests.{ltb-true, ltb-false, eqb-true, lt-ltb, ne-eqb}
+use borrow.Author.Tests.{ltb-true, ltb-false, lt-ltb, ne-eqb}
 use lib.Dec.{ltb, leb, eqb}
 use lib.ListN.{length, take, length-append}
 use lib.Seq.{length-take-le, take-length}
@@ -18,14 +18,16 @@ use Rattle.motion.specs.declared.Sense.{Sense}
 use Rattle.motion.specs.declared.Body.{Body}
 use Rattle.motion.specs.declared.Travel.{Travel}
 use Rattle.motion.specs.declared.Activity.{Activity}
-use Rattle.motion.specs.declared.Activity.the-variants.{Initialising, Moving, Delaying, Ejecting, Between}
+use Rattle.motion.specs.declared.Activity.the-variants.{Initialising, Moving, Delaying, Approaching, Searching, Ejecting, Between}
 use Rattle.motion.specs.declared.Target.{Target}
 use Rattle.motion.specs.declared.Target.the-variants as Target
 use Rattle.motion.specs.declared.Effect.{Effect}
 use Rattle.motion.specs.declared.Effect.the-variants.{Goes, Ends, Fails, Asks, Opens, Closes}
 use Rattle.motion.specs.Events.{Turn}
-use Rattle.motion.specs.Motion.{laterOf, plungerOf, homeOf, targetOf, setOut, aimed, delayOf, effectOf, carried, waitedOf, onwardOf, between}
-use Rattle.motion.proofs.Moves.{move-by, eject-by, ejected-by}
+use Rattle.motion.specs.Bodies.{laterOf, plungerOf}
+use Rattle.motion.specs.Detect.{feltIn, searchedOf}
+use Rattle.motion.specs.Motion.{homeOf, targetOf, setOut, aimed, delayOf, effectOf, carried, waitedOf, onwardOf, between}
+use Rattle.motion.proofs.Moves.{move-by, eject-by, ejected-by, detect-by, approached-by, found-by}
 use Rattle.command.specs.declared.Way.{Way}
 use Rattle.command.specs.declared.Command.{Command}
 use Rattle.command.specs.declared.Command.the-variants as C
@@ -99,6 +101,8 @@ effect-fits x (C.Slopes up down) b = refl
 effect-fits x (C.Backlash n) b = refl
 effect-fits x (C.Compensate n down) b = refl
 effect-fits x (C.Delay ms) b = by (λ (e : Effect). Fits e plain) (eqb (ticksOf ms) 0) (λ h. refl) (λ h. (refl, refl))
+effect-fits x (C.Set a n) b = refl
+effect-fits x (C.Detect here) b = detect-by (λ (t : Turn Effect). Fits (t .next) plain) b (λ why. tt) (λ z. (refl, refl)) (λ z. (refl, refl)) (λ z. (refl, refl)) here x
 effect-fits x (C.Eject bare) b = eject-by (λ (e : Effect). Fits e plain) bare x b (λ why. tt) refl
 effect-fits x C.Open b = refl
 effect-fits x (C.Close n) b = refl
@@ -113,10 +117,12 @@ unfolding waitedOf
 waited-fits k b = by (λ (x : Effect). Fits x plain) (leb k 1) (λ h. refl) (λ h. (refl, refl))
 
 pub onward-fits : (x : Sense) (a : Activity) (b : Body) → Fits (onwardOf x a b .next) plain
-unfolding onwardOf
+unfolding onwardOf searchedOf
 onward-fits x (Initialising t) b = carried-fits Initialising true (laterOf t) b refl
 onward-fits x (Moving t) b = carried-fits Moving (b .initialised) (laterOf t) b refl
 onward-fits x (Delaying k) b = waited-fits k b
+onward-fits x (Approaching t z) b = approached-by (λ (e : Turn Effect). Fits (e .next) plain) (feltIn x) (laterOf t) z _ tt (refl, refl) (refl, refl)
+onward-fits x (Searching f) b = found-by (λ (e : Turn Effect). Fits (e .next) plain) _ refl (λ why. tt) (λ s. (refl, refl)) _
 onward-fits x Ejecting b = ejected-by (λ (e : Effect). Fits e plain) x b tt refl
 onward-fits x Between b = refl
 
@@ -283,6 +289,8 @@ while-on : (a : Activity) (t : List ℕ) (at : ℕ) (l : Loops) → AheadIf (bet
 while-on (Initialising m) t at l o = tt
 while-on (Moving m) t at l o = tt
 while-on (Delaying k) t at l o = o
+while-on (Approaching m z) t at l o = tt
+while-on (Searching f) t at l o = tt
 while-on Ejecting t at l o = tt
 while-on Between t at l o = tt
 

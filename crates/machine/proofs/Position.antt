@@ -24,14 +24,20 @@ use Rattle.motion.specs.declared.Sense.{Sense}
 use Rattle.motion.specs.declared.Body.{Body}
 use Rattle.motion.specs.declared.Travel.{Travel}
 use Rattle.motion.specs.declared.Activity.{Activity}
-use Rattle.motion.specs.declared.Activity.the-variants.{Initialising, Moving, Delaying, Ejecting, Between}
+use Rattle.motion.specs.declared.Activity.the-variants.{Initialising, Moving, Delaying, Approaching, Searching, Ejecting, Between}
 use Rattle.motion.specs.declared.Effect.{Effect}
 use Rattle.motion.specs.declared.Effect.the-variants.{Goes, Ends, Fails, Asks, Opens, Closes}
 use Rattle.motion.specs.declared.Target.{Target}
 use Rattle.motion.specs.declared.Target.the-variants.{At, Outside}
 use Rattle.motion.specs.Events.{Turn}
-use Rattle.motion.specs.Motion.{laterOf, plungerOf, homeOf, within, targetOf, setOut, eventOf, aimed, moveOf, delayOf, effectOf, carried, waitedOf, onwardOf, inMotion, between, cutOf, resetOf}
-use Rattle.motion.proofs.Moves.{move-by, eject-by, ejected-by}
+use Rattle.level.specs.declared.Pressure.{Pressure}
+use Rattle.level.specs.declared.Finding.{Finding}
+use Rattle.level.specs.Level as Level
+use Rattle.level.specs.Level.{plungerIn, findingOf, soughtOf}
+use Rattle.motion.specs.Bodies.{laterOf, plungerOf, bodyAt}
+use Rattle.motion.specs.Detect.{feltIn, placeFor, detectOf, approachedOf, foundAs, searchedOf}
+use Rattle.motion.specs.Motion.{homeOf, within, targetOf, setOut, eventOf, aimed, moveOf, delayOf, effectOf, carried, waitedOf, onwardOf, inMotion, between, cutOf, resetOf}
+use Rattle.motion.proofs.Moves.{move-by, eject-by, ejected-by, detect-by, approached-by, found-by}
 use Rattle.buffer.specs.declared.course.State.{State}
 use Rattle.buffer.specs.declared.course.State.the-variants.{Empty, Stored, Running, Stopped, Done}
 use Rattle.buffer.specs.declared.course.Loops.{Loops}
@@ -54,20 +60,22 @@ use Rattle.machine.specs.Act.{haltOf, stopOf, changedOf, doneOf, actedOf
 use Rattle.machine.specs.History.{Sum, counted, addedUp, IsSum, moving}
 use Rattle.machine.proofs.Looping.{behind-open, behind-close}
 
--- where a movement goes, or else where the plunger stands
-abbrev toward : Activity → ℕ → ℕ
-toward (Initialising t) plunger = t .goal
-toward (Moving t) plunger = t .goal
-toward (Delaying k) plunger = plunger
-toward Ejecting plunger = plunger
-toward Between plunger = plunger
+-- where a movement goes, or else where the plunger stands; a search has no goal, and asks nothing of the plunger until it ends
+abbrev toward : Activity → ℕ → ℕ → ℕ
+toward (Initialising t) plunger exact = t .goal
+toward (Moving t) plunger exact = t .goal
+toward (Delaying k) plunger exact = plunger
+toward (Approaching t z) plunger exact = t .goal
+toward (Searching f) plunger exact = goalOf exact
+toward Ejecting plunger exact = plunger
+toward Between plunger exact = plunger
 
-abbrev heading : State → ℕ → ℕ
-heading (Running a) plunger = toward a plunger
-heading Empty plunger = plunger
-heading Stored plunger = plunger
-heading Stopped plunger = plunger
-heading Done plunger = plunger
+abbrev heading : State → ℕ → ℕ → ℕ
+heading (Running a) plunger exact = toward a plunger exact
+heading Empty plunger exact = plunger
+heading Stored plunger exact = plunger
+heading Stopped plunger exact = plunger
+heading Done plunger exact = plunger
 
 -- what every call keeps: the exact position is the sum, and lies near the place
 pub record Told (place exact : ℕ) (s : Sum) : Type 0 where
@@ -75,11 +83,11 @@ pub record Told (place exact : ℕ) (s : Sum) : Type 0 where
   pub near : Near place exact
 
 abbrev pub CoreTold : Core → Sum → Type 0
-CoreTold c s = Told (heading (c .course .state) (c .body .plunger)) (c .body .exact) s
+CoreTold c s = Told (heading (c .course .state) (c .body .plunger) (c .body .exact)) (c .body .exact) s
 
 -- an effect on a body that a loop leaves as it is
 abbrev EffectTold : Body → Effect → Sum → Type 0
-EffectTold b (Goes d a) s = Told (toward a (d .plunger)) (d .exact) s
+EffectTold b (Goes d a) s = Told (toward a (d .plunger) (d .exact)) (d .exact) s
 EffectTold b (Ends d) s = Told (d .plunger) (d .exact) s
 EffectTold b (Fails why d) s = Told (d .plunger) (d .exact) s
 EffectTold b Asks s = Told (b .plunger) (b .exact) s
@@ -87,19 +95,21 @@ EffectTold b Opens s = Told (b .plunger) (b .exact) s
 EffectTold b (Closes n) s = Told (b .plunger) (b .exact) s
 
 -- where nothing moves, the place is the plunger's
-still : (a : Activity) (plunger : ℕ) → inMotion a ≡ false → toward a plunger ≡ plunger
-still (Initialising t) p h = absurd (true≢false h)
-still (Moving t) p h = absurd (true≢false h)
-still (Delaying k) p h = refl
-still Ejecting p h = refl
-still Between p h = refl
+still : (a : Activity) (plunger exact : ℕ) → inMotion a ≡ false → toward a plunger exact ≡ plunger
+still (Initialising t) p e h = absurd (true≢false h)
+still (Moving t) p e h = absurd (true≢false h)
+still (Delaying k) p e h = refl
+still (Approaching t z) p e h = absurd (true≢false h)
+still (Searching f) p e h = absurd (true≢false h)
+still Ejecting p e h = refl
+still Between p e h = refl
 
-pub at-rest : (s : State) (plunger : ℕ) → moving s ≡ false → heading s plunger ≡ plunger
-at-rest (Running a) p h = still a p h
-at-rest Empty p h = refl
-at-rest Stored p h = refl
-at-rest Stopped p h = refl
-at-rest Done p h = refl
+pub at-rest : (s : State) (plunger exact : ℕ) → moving s ≡ false → heading s plunger exact ≡ plunger
+at-rest (Running a) p e h = still a p e h
+at-rest Empty p e h = refl
+at-rest Stored p e h = refl
+at-rest Stopped p e h = refl
+at-rest Done p e h = refl
 
 -- a volume and the exact position that it gives
 abbrev Reaches : Way → ℕ → ℕ → ℕ → Type 0
@@ -160,6 +170,16 @@ module _ (b : Body) (s : Sum) (told : Told (b .plunger) (b .exact) s) where
   unfolding delayOf
   delay-tells ms = by (λ (e : Effect). EffectTold b e s) (eqb (ticksOf ms) 0) (λ h. told) (λ h. told)
 
+  -- B1 leaves the exact position, and B0 starts it at p2
+  detect-tells : (here : Bool) (x : Sense) → EffectTold b (detectOf here x b .next) (addedUp s (detectOf here x b .events))
+  unfolding addedUp IsSum
+  detect-tells =
+      detect-by (λ (t : Turn Effect). EffectTold b (t .next) (addedUp s (t .events))) b
+      (λ why. told)
+      (λ z. record { sum = told .sum; near = goal-is-within-half-an-increment (b .exact) })
+      (λ z. record { sum = refl; near = goal-is-within-half-an-increment (placeFor b) })
+      (λ z. record { sum = refl; near = omega arith })
+
   effect-tells : (x : Sense) (k : Command) → EffectTold b (effectOf x k b .next) (addedUp s (effectOf x k b .events))
   unfolding effectOf addedUp
   effect-tells x (Command.Initialise n) = home-tells n
@@ -169,48 +189,73 @@ module _ (b : Body) (s : Sum) (told : Told (b .plunger) (b .exact) s) where
   effect-tells x (Command.Backlash n) = told
   effect-tells x (Command.Compensate n down) = told
   effect-tells x (Command.Delay ms) = delay-tells ms
+  effect-tells x (Command.Set a n) = told
+  effect-tells x (Command.Detect here) = detect-tells here x
   effect-tells x (Command.Eject bare) = eject-by (λ (e : Effect). EffectTold b e s) bare x b (λ why. told) told
   effect-tells x Command.Open = told
   effect-tells x (Command.Close n) = told
 
 -- a tick of what is in progress: a movement that ends stands at its goal
 carried-tells :
-    (kind : Travel → Activity) (known : Bool) (t : Travel) (b : Body) (s : Sum) → ((u : Travel) (plunger : ℕ) → toward (kind u) plunger ≡ u .goal) →
+    (kind : Travel → Activity) (known : Bool) (t : Travel) (b : Body) (s : Sum) → ((u : Travel) (plunger exact : ℕ) → toward (kind u) plunger exact ≡ u .goal) →
     Told (t .goal) (b .exact) s → EffectTold b (carried kind known (laterOf t) b) s
 unfolding carried
 carried-tells kind known t b s goes told =
     let u = laterOf t in
     by (λ (e : Effect). EffectTold b e s) (eqb (plungerOf u) (t .goal))
     (λ e. record { sum = told .sum; near = rw (eqb-true (plungerOf u) (t .goal) e) (told .near) })
-    (λ e. rw (goes u (plungerOf u)) told)
+    (λ e. rw (goes u (plungerOf u) (b .exact)) told)
 
 waited-tells : (k : ℕ) (b : Body) (s : Sum) → Told (b .plunger) (b .exact) s → EffectTold b (waitedOf k b) s
 unfolding waitedOf
 waited-tells k b s told = by (λ (e : Effect). EffectTold b e s) (leb k 1) (λ h. told) (λ h. told)
 
-onward-tells : (x : Sense) (a : Activity) (b : Body) (s : Sum) → Told (toward a (b .plunger)) (b .exact) s → EffectTold b (onwardOf x a b .next) (addedUp s (onwardOf x a b .events))
-unfolding onwardOf addedUp
-onward-tells x (Initialising t) b s told = carried-tells Initialising true t b s (λ u p. refl) told
-onward-tells x (Moving t) b s told = carried-tells Moving (b .initialised) t b s (λ u p. refl) told
+-- B's move ends where the search begins, or at the plunger; a search ends at the plunger
+approached-tells : (p : Pressure) (t : Travel) (z : ℕ) (b : Body) (s : Sum) → Told (t .goal) (b .exact) s →
+    (let e = approachedOf p (laterOf t) z (bodyAt (plungerOf (laterOf t)) b) in EffectTold b (e .next) (addedUp s (e .events)))
+unfolding addedUp IsSum
+approached-tells p t z b s told =
+    approached-by (λ (e : Turn Effect). EffectTold b (e .next) (addedUp s (e .events))) p (laterOf t) z (bodyAt (plungerOf (laterOf t)) b)
+    (record { sum = refl; near = omega arith })
+    (record { sum = told .sum; near = goal-is-within-half-an-increment (b .exact) })
+    told
+
+found-tells : (f : Finding) (b : Body) (s : Sum) (d : Body) → Told (goalOf (d .exact)) (d .exact) s → EffectTold b (foundAs f d .next) (addedUp s (foundAs f d .events))
+unfolding addedUp IsSum
+found-tells f b s d told =
+    found-by (λ (e : Turn Effect). EffectTold b (e .next) (addedUp s (e .events))) d
+    (record { sum = refl; near = omega arith })
+    (λ why. record { sum = refl; near = omega arith })
+    (λ f. told)
+    f
+
+onward-tells : (x : Sense) (a : Activity) (b : Body) (s : Sum) → Told (toward a (b .plunger) (b .exact)) (b .exact) s → EffectTold b (onwardOf x a b .next) (addedUp s (onwardOf x a b .events))
+unfolding onwardOf addedUp searchedOf soughtOf
+onward-tells x (Initialising t) b s told = carried-tells Initialising true t b s (λ u p e. refl) told
+onward-tells x (Moving t) b s told = carried-tells Moving (b .initialised) t b s (λ u p e. refl) told
 onward-tells x (Delaying k) b s told = waited-tells k b s told
+onward-tells x (Approaching t z) b s told = approached-tells (feltIn x) t z b s told
+onward-tells x (Searching f) b s told = found-tells (findingOf (b .settings .detection) (Level.laterOf f) (feltIn x)) b s (bodyAt (plungerIn (b .settings .detection) (Level.laterOf f)) b) told
 onward-tells x Ejecting b s told = ejected-by (λ (e : Effect). EffectTold b e s) x b told told
 onward-tells x Between b s told = told
 
 -- a movement that is cut starts anew at the plunger
-cut-tells : (a : Activity) (b : Body) (s : Sum) → Told (toward a (b .plunger)) (b .exact) s → Told (cutOf a b .next .plunger) (cutOf a b .next .exact) (addedUp s (cutOf a b .events))
+cut-tells : (a : Activity) (b : Body) (s : Sum) → Told (toward a (b .plunger) (b .exact)) (b .exact) s → Told (cutOf a b .next .plunger) (cutOf a b .next .exact) (addedUp s (cutOf a b .events))
 unfolding cutOf addedUp IsSum
 cut-tells a b s told =
     by (λ (t : Turn Body). Told (t .next .plunger) (t .next .exact) (addedUp s (t .events))) (inMotion a)
     (λ h. record { sum = refl; near = omega arith })
-    (λ h. rw (still a (b .plunger) h) at told)
+    (λ h. rw (still a (b .plunger) (b .exact) h) at told)
 
 -- between two commands nothing moves
-idle : (a : Activity) (plunger : ℕ) → between a ≡ true → toward a plunger ≡ plunger
-idle (Initialising t) p h = absurd (false≢true h)
-idle (Moving t) p h = absurd (false≢true h)
-idle (Delaying k) p h = absurd (false≢true h)
-idle Ejecting p h = absurd (false≢true h)
-idle Between p h = refl
+idle : (a : Activity) (plunger exact : ℕ) → between a ≡ true → toward a plunger exact ≡ plunger
+idle (Initialising t) p e h = absurd (false≢true h)
+idle (Moving t) p e h = absurd (false≢true h)
+idle (Delaying k) p e h = absurd (false≢true h)
+idle (Approaching t z) p e h = absurd (false≢true h)
+idle (Searching f) p e h = absurd (false≢true h)
+idle Ejecting p e h = absurd (false≢true h)
+idle Between p e h = refl
 
 -- a command that has ended leaves nothing that moves
 abbrev Rests : Course → Type 0
@@ -226,7 +271,7 @@ module _ (c : Course) where
   halted-rests = by Rests (ltb (c .at) (c .len)) (λ h. refl) (λ h. refl)
 
 rests-told : (c : Course) (b : Body) (s : Sum) → Rests c → Told (b .plunger) (b .exact) s → CoreTold (core b c) s
-rests-told c b s h told = rw (at-rest (c .state) (b .plunger) h) told
+rests-told c b s h told = rw (at-rest (c .state) (b .plunger) (b .exact) h) told
 
 module _ (c : Core) where
   abbrev WentTold : Sum → Went → Type 0
@@ -250,19 +295,19 @@ module _ (c : Core) where
   taken-tells x (F.Refused m) s told = told
   taken-tells x F.End s told = ended-tells (c .body) (c .course .at) (c .course .loops) s told
 
-  carried-on-tells : (x : Sense) (a : Activity) (s : Sum) → Told (toward a (c .body .plunger)) (c .body .exact) s → CoreTold (carriedOn x a c .next .core) (addedUp s (carriedOn x a c .events))
+  carried-on-tells : (x : Sense) (a : Activity) (s : Sum) → Told (toward a (c .body .plunger) (c .body .exact)) (c .body .exact) s → CoreTold (carriedOn x a c .next .core) (addedUp s (carriedOn x a c .events))
   unfolding carriedOn
   carried-on-tells x a s told = applied-tells (onwardOf x a (c .body) .next) (c .course .at) _ (onward-tells x a (c .body) s told)
 
-  running-tells : (a : Activity) (w : Around) (s : Sum) → Told (toward a (c .body .plunger)) (c .body .exact) s → CoreTold (runningOf a w c .next .core) (addedUp s (runningOf a w c .events))
+  running-tells : (a : Activity) (w : Around) (s : Sum) → Told (toward a (c .body .plunger) (c .body .exact)) (c .body .exact) s → CoreTold (runningOf a w c .next .core) (addedUp s (runningOf a w c .events))
   unfolding runningOf
   running-tells a w s told =
       by (λ (t : Turn Stepped). CoreTold (t .next .core) (addedUp s (t .events))) (between a)
-      (λ h. taken-tells (w .sense) (commandAt (take (c .course .len) (w .text)) (c .course .at)) s (rw (idle a (c .body .plunger) h) at told))
+      (λ h. taken-tells (w .sense) (commandAt (take (c .course .len) (w .text)) (c .course .at)) s (rw (idle a (c .body .plunger) (c .body .exact) h) at told))
       (λ h. carried-on-tells (w .sense) a s told)
 
 module _ (c : Core) (s : Sum) (told : CoreTold c s) where
-  active-tells : (st : State) (w : Around) → Told (heading st (c .body .plunger)) (c .body .exact) s → CoreTold (activeOf st w c .next .core) (addedUp s (activeOf st w c .events))
+  active-tells : (st : State) (w : Around) → Told (heading st (c .body .plunger) (c .body .exact)) (c .body .exact) s → CoreTold (activeOf st w c .next .core) (addedUp s (activeOf st w c .events))
   unfolding activeOf addedUp
   active-tells (Running a) w h = running-tells c a w s h
   active-tells Empty w h = told
@@ -274,7 +319,7 @@ module _ (c : Core) (s : Sum) (told : CoreTold c s) where
   unfolding stepOf
   step-tells w = active-tells (c .course .state) w told
 
-  halt-tells : (st : State) → Told (heading st (c .body .plunger)) (c .body .exact) s → CoreTold (haltOf st c .next) (addedUp s (haltOf st c .events))
+  halt-tells : (st : State) → Told (heading st (c .body .plunger) (c .body .exact)) (c .body .exact) s → CoreTold (haltOf st c .next) (addedUp s (haltOf st c .events))
   unfolding haltOf addedUp
   halt-tells (Running a) h =
       let t = cutOf a (c .body) in
@@ -318,6 +363,8 @@ busy-moving : (a : Activity) → inMotion a ≡ true → whileOf a ≡ K.Busy
 busy-moving (Initialising t) h = refl
 busy-moving (Moving t) h = refl
 busy-moving (Delaying k) h = absurd (false≢true h)
+busy-moving (Approaching t z) h = refl
+busy-moving (Searching f) h = refl
 busy-moving Ejecting h = absurd (false≢true h)
 busy-moving Between h = refl
 
@@ -335,7 +382,7 @@ not-moving false h = refl
 module _ (c : Core) (s : Sum) (told : CoreTold c s) where
   -- an order that no movement allows finds the plunger at rest
   resting : (moving (c .course .state) ≡ true → ⊥) → Told (c .body .plunger) (c .body .exact) s
-  resting h = rw (at-rest (c .course .state) (c .body .plunger) (not-moving (moving (c .course .state)) h)) at told
+  resting h = rw (at-rest (c .course .state) (c .body .plunger) (c .body .exact) (not-moving (moving (c .course .state)) h)) at told
 
   changed-tells : (k : Change) → (moving (c .course .state) ≡ true → MildChange k) → CoreTold (changedOf k c .next) (addedUp s (changedOf k c .events))
   unfolding changedOf addedUp resetOf IsSum

@@ -10,7 +10,8 @@ use Rattle.motion.specs.declared.Body.{Body}
 use Rattle.motion.specs.declared.Activity.{Activity}
 use Rattle.motion.specs.declared.Activity.the-variants.{Delaying, Between}
 use Rattle.motion.specs.Events.{start, quiet, told}
-use Rattle.motion.specs.Motion.{bodyFor, atPlunger, inMotion, cutOf}
+use Rattle.motion.specs.Bodies.{bodyFor, atPlunger}
+use Rattle.motion.specs.Motion.{inMotion, cutOf}
 use Rattle.buffer.specs.declared.course.State.the-variants.{Running, Stopped}
 use Rattle.buffer.specs.declared.course.Course.{Course}
 use Rattle.buffer.specs.declared.course.Went.the-variants.{On}

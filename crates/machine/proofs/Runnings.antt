@@ -1,6 +1,5 @@
 -- Runs that loop and runs that fail, computed from the definitions: what `specs/OnCourse` speaks of is met.
 use mathlib.Core.Path.{_≡_, refl}
-use mathlib.Core.Bool.{false}
 use mathlib.Core.List.{List, [], _∷_}
 use Prim.Native.Nat.{ℕ}
 use Prim.Native.String.{String}
@@ -17,6 +16,7 @@ use Rattle.command.specs.Command.{placed, foundIn, commandAt}
 use Rattle.text.specs.Text.{Step, Reading, reads, wrong, readFrom, readOf}
 use Rattle.text.specs.Loops.{levelOf, levels, loopsOk}
 use Rattle.motion.specs.declared.Activity.the-variants.{Between}
+use Rattle.motion.specs.Bodies.{plungerOf, nothingSensed}
 use Rattle.motion.specs.Motion as Motion
 use Rattle.buffer.specs.declared.course.State.{State}
 use Rattle.buffer.specs.declared.course.State.the-variants.{Empty, Running, Done}
@@ -33,7 +33,7 @@ use Rattle.machine.proofs.OnCourse.{every-device-is-on-course}
 
 -- a text is run for so many ticks
 abbrev runs : String → ℕ → List Call
-runs text n = act Launch (chars text) ∷ replicate n (tick (record { tip = false }))
+runs text n = act Launch (chars text) ∷ replicate n (tick nothingSensed)
 
 pub record Shown : Type 0 where
   pub state : State
@@ -63,7 +63,7 @@ pub runs-loop-and-fail :
     ∷ shows Empty 0 0 7
     ∷ shows Empty 0 0 3
     ∷ []
-unfolding digit every valueOf over fits laidIn within rateOf millionthsOf goalOf goneOf run rest digits decimalsOf followedOf numberOf behindComma pairOf letterOf allowed takenOf wholeOf nanolitresOf made both inUnit volumeOf compensationOf commandOf placed foundIn commandAt readFrom readOf levelOf levels loopsOk Motion.plungerOf Motion.homeOf Motion.within Motion.targetOf Motion.setOut Motion.aimed Motion.moveOf Motion.effectOf Motion.carried Motion.onwardOf Motion.freshBody passOf reached openedOf closedBy closedOf Step.appliedOf Step.takenOf Step.carriedOn Step.runningOf Step.activeOf Step.stepOf cellOf loopsBy sized verdictOf changedOf doneOf laidBy storedBy actedOf actOf freshOf tickOf callOf afterOf after
+unfolding digit every valueOf over fits laidIn within rateOf millionthsOf goalOf goneOf run rest digits decimalsOf followedOf numberOf behindComma pairOf letterOf allowed takenOf wholeOf nanolitresOf made both inUnit volumeOf compensationOf commandOf placed foundIn commandAt readFrom readOf levelOf levels loopsOk plungerOf Motion.homeOf Motion.within Motion.targetOf Motion.setOut Motion.aimed Motion.moveOf Motion.effectOf Motion.carried Motion.onwardOf Motion.freshBody passOf reached openedOf closedBy closedOf Step.appliedOf Step.takenOf Step.carriedOn Step.runningOf Step.activeOf Step.stepOf cellOf loopsBy sized verdictOf changedOf doneOf laidBy storedBy actedOf actOf freshOf tickOf callOf afterOf after
 runs-loop-and-fail = refl
 
 -- the strings of such calls are texts that read, and so the device is on course

@@ -15,9 +15,10 @@ use Rattle.motion.specs.declared.Body.{Body}
 use Rattle.motion.specs.declared.Effect.the-variants.{Goes, Ends}
 use Rattle.motion.specs.declared.Travel.{Travel}
 use Rattle.motion.specs.declared.Activity.{Activity}
-use Rattle.motion.specs.declared.Activity.the-variants.{Initialising, Moving, Delaying, Ejecting, Between}
+use Rattle.motion.specs.declared.Activity.the-variants.{Initialising, Moving, Delaying, Approaching, Searching, Ejecting, Between}
 use Rattle.motion.specs.Bounds.{TravelOk, ActivityOk}
-use Rattle.motion.specs.Motion.{laterOf, plungerOf, bodyAt, bodyKnown, carried}
+use Rattle.motion.specs.Bodies.{laterOf, plungerOf, bodyAt, bodyKnown}
+use Rattle.motion.specs.Motion.{carried}
 use Rattle.motion.proofs.Keeps.{not-arrived}
 use Rattle.buffer.specs.declared.course.State.{State}
 use Rattle.buffer.specs.declared.course.State.the-variants.{Empty, Stored, Running, Stopped, Done}
@@ -188,6 +189,8 @@ module _ (w : Around) (s : Stepped) (most : ℕ) where
       go (Running (Initialising t)) e o = by-moving Initialising (λ i. _) initialising t o e
       go (Running (Moving t)) e o = by-moving Moving (λ i. i) a-move t o e
       go (Running (Delaying k)) e o = by-one r
+      go (Running (Approaching t z)) e o = by-one r
+      go (Running (Searching f)) e o = by-one r
       go (Running Ejecting) e o = by-one r
       go (Running Between) e o = by-one r
       go Empty e o = by-one r
@@ -219,6 +222,8 @@ module _ (c : Core) (ok : Valid c) (most : ℕ) where
       go (Running (Initialising t)) o = passing Initialising t o (λ h. h)
       go (Running (Moving t)) o = passing Moving t o (λ h. h)
       go (Running (Delaying k)) o = stays
+      go (Running (Approaching t z)) o = stays
+      go (Running (Searching f)) o = stays
       go (Running Ejecting) o = stays
       go (Running Between) o = stays
       go Empty o = stays

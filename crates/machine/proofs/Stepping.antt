@@ -1,9 +1,9 @@
 -- Laws of `specs/Step`, one for each return of the code.
-use mathlib.Core.Path.{_≡_, refl, sym, ap, _∙_}
-use mathlib.Core.Bool.{Bool, true, false, _||_}
+use mathlib.Core.Path.{_≡_, sym, ap, _∙_}
+use mathlib.Core.Bool.{Bool, true, false}
 use mathlib.Core.List.{List}
 use Prim.Native.Nat.{ℕ}
-use lib.ListN.{length, take}
+use lib.ListN.{take}
 use Rattle.command.specs.declared.Command.{Command}
 use Rattle.command.specs.declared.refusal.Misread.{Misread}
 use Rattle.command.specs.declared.refusal.Refusal.{Refusal}

@@ -2,9 +2,9 @@
 -- and what a tip is changes nothing but itself while no E is taken or in progress.
 use mathlib.Core.Path.{_≡_, refl, sym, ap, _∙_}
 use mathlib.Core.Logic.{_⊎_, inl, inr}
-use mathlib.Core.Bool.{Bool, true, false, _&&_, _||_, true≢false, false≢true}
+use mathlib.Core.Bool.{Bool, true, false, _||_, true≢false, false≢true}
 use mathlib.Core.List.{List, [], _∷_}
-use Prim.Native.Nat.{ℕ, zero, suc, _+_, _<_}
+use Prim.Native.Nat.{ℕ, zero, suc, _<_}
 use native.Mathlib.Omega.{arith}
 use lib.Dec.{eqb, leb}
 use lib.ListN.{take, drop}
@@ -27,14 +27,17 @@ use Rattle.command.proofs.Letters.{an-eject-stands-at-an-e}
 use Rattle.motion.specs.declared.Sense.{Sense}
 use Rattle.motion.specs.declared.Body.{Body}
 use Rattle.motion.specs.declared.Activity.{Activity}
-use Rattle.motion.specs.declared.Activity.the-variants.{Initialising, Moving, Delaying, Ejecting, Between}
+use Rattle.motion.specs.declared.Activity.the-variants.{Initialising, Moving, Delaying, Approaching, Searching, Ejecting, Between}
 use Rattle.motion.specs.declared.Effect.{Effect}
 use Rattle.motion.specs.declared.Effect.the-variants.{Goes, Ends, Fails, Asks, Opens, Closes}
 use Rattle.motion.specs.Events.{Turn}
 use Rattle.motion.specs.declared.Target.{Target}
 use Rattle.motion.specs.declared.Target.the-variants.{At, Outside}
-use Rattle.motion.specs.Motion.{laterOf, plungerOf, homeOf, setOut, aimed, delayOf, effectOf, carried, waitedOf, onwardOf}
-use Rattle.motion.proofs.Moves.{move-by, eject-by, ejected-by}
+use Rattle.motion.specs.Bodies.{laterOf, plungerOf}
+use Rattle.level.specs.Level.{pressureOf}
+use Rattle.motion.specs.Detect.{feltIn, detectOf, searchedOf}
+use Rattle.motion.specs.Motion.{homeOf, setOut, aimed, delayOf, effectOf, carried, waitedOf, onwardOf}
+use Rattle.motion.proofs.Moves.{move-by, eject-by, ejected-by, detect-by, approached-by, found-by}
 use Rattle.buffer.specs.declared.course.State.{State}
 use Rattle.buffer.specs.declared.course.State.the-variants.{Empty, Stored, Running, Stopped, Done}
 use Rattle.buffer.specs.declared.course.Went.{Went}
@@ -47,7 +50,7 @@ use Rattle.machine.specs.Run.{readyOf, ticksOf, usedOf}
 use Rattle.machine.specs.OnCourse.{Takes, Failing}
 use Rattle.machine.specs.Tips.{Ejects, AskedIn, AtEject, next-is-one, in-progress, otherThanE, NoE}
 use Rattle.machine.proofs.Failures.{effect-fails, must-fail, step-takes}
-use Rattle.machine.proofs.Ways.{Ways, step-by}
+use Rattle.machine.proofs.Ways.{step-by}
 
 -- which effect asks
 abbrev asksOf : Effect → Bool
@@ -75,10 +78,12 @@ applied-asks Opens next c = went-asks-not (openedOf next (c .course)) c
 applied-asks (Closes n) next c = went-asks-not (closedOf n next (c .course)) c
 
 onward-asks-not : (x : Sense) (a : Activity) (b : Body) → Unasking (onwardOf x a b .next)
-unfolding onwardOf carried waitedOf
+unfolding onwardOf carried waitedOf searchedOf
 onward-asks-not x (Initialising t) b = by Unasking (eqb (plungerOf (laterOf t)) (t .goal)) (λ _. refl) (λ _. refl)
 onward-asks-not x (Moving t) b = by Unasking (eqb (plungerOf (laterOf t)) (t .goal)) (λ _. refl) (λ _. refl)
 onward-asks-not x (Delaying k) b = by Unasking (leb k 1) (λ _. refl) (λ _. refl)
+onward-asks-not x (Approaching t z) b = approached-by (λ (e : Turn Effect). Unasking (e .next)) (feltIn x) (laterOf t) z _ refl refl refl
+onward-asks-not x (Searching f) b = found-by (λ (e : Turn Effect). Unasking (e .next)) _ refl (λ why. refl) (λ s. refl) _
 onward-asks-not x Ejecting b = ejected-by Unasking x b refl refl
 onward-asks-not x Between b = refl
 
@@ -101,6 +106,8 @@ effect-asks x (C.Slopes up down) b e = absurd (false≢true e)
 effect-asks x (C.Backlash n) b e = absurd (false≢true e)
 effect-asks x (C.Compensate n down) b e = absurd (false≢true e)
 effect-asks x (C.Delay ms) b e = absurd (false≢true (sym (by Unasking (eqb (ticksOfMs ms) 0) (λ _. refl) (λ _. refl)) ∙ e))
+effect-asks x (C.Set a n) b e = absurd (false≢true e)
+effect-asks x (C.Detect here) b e = absurd (false≢true (sym (detect-by (λ (t : Turn Effect). Unasking (t .next)) b (λ why. refl) (λ z. refl) (λ z. refl) (λ z. refl) here x) ∙ e))
 effect-asks x (C.Eject bare) b e = (bare, refl)
 effect-asks x C.Open b e = absurd (false≢true e)
 effect-asks x (C.Close n) b e = absurd (false≢true e)
@@ -136,6 +143,8 @@ module _ (text : List ℕ) (x : Sense) (c : Core) where
   active-ejects (Running (Initialising t)) s h = carried-asks-not (Initialising t) h
   active-ejects (Running (Moving t)) s h = carried-asks-not (Moving t) h
   active-ejects (Running (Delaying k)) s h = carried-asks-not (Delaying k) h
+  active-ejects (Running (Approaching t z)) s h = carried-asks-not (Approaching t z) h
+  active-ejects (Running (Searching f)) s h = carried-asks-not (Searching f) h
   active-ejects (Running Ejecting) s h = carried-asks-not Ejecting h
   active-ejects (Running Between) s h = taken-ejects (commandAt (take (c .course .len) text) (c .course .at)) refl s h
   active-ejects Empty s h = absurd (false≢true h)
@@ -241,9 +250,12 @@ module _ (text : List ℕ) (x : Sense) where
   without-an-E-no-tick-asks (suc n) s h none = without-an-E-no-tick-asks n (nextOf (around text x) s) (rw h (not-asked (s .core) none)) (none-left (s .core) none)
 
 -- another tip
-module _ (text : List ℕ) (x y : Sense) where
+module _ (text : List ℕ) (x y : Sense) (pressed : x .reading ≡ y .reading) where
+  felt-same : feltIn x ≡ feltIn y
+  felt-same = ap pressureOf pressed
+
   effect-same : (k : Command) (b : Body) → ((bare : Bool) → k ≡ C.Eject bare → ⊥) → effectOf x k b ≡ effectOf y k b
-  unfolding effectOf
+  unfolding effectOf detectOf
   effect-same (C.Initialise n) b apart = refl
   effect-same (C.Move way v) b apart = refl
   effect-same (C.Speed pace n) b apart = refl
@@ -251,6 +263,8 @@ module _ (text : List ℕ) (x y : Sense) where
   effect-same (C.Backlash n) b apart = refl
   effect-same (C.Compensate n down) b apart = refl
   effect-same (C.Delay ms) b apart = refl
+  effect-same (C.Set a n) b apart = refl
+  effect-same (C.Detect here) b apart = rw felt-same
   effect-same (C.Eject bare) b apart = absurd (apart bare refl)
   effect-same C.Open b apart = refl
   effect-same (C.Close n) b apart = refl
@@ -269,6 +283,8 @@ module _ (text : List ℕ) (x y : Sense) where
     active-same (Running (Initialising t)) s = refl
     active-same (Running (Moving t)) s = refl
     active-same (Running (Delaying k)) s = refl
+    active-same (Running (Approaching t z)) s = rw felt-same
+    active-same (Running (Searching f)) s = rw felt-same
     active-same (Running Ejecting) s = absurd (apart (in-progress s))
     active-same (Running Between) s = taken-same (commandAt (take (c .course .len) text) (c .course .at)) refl s
     active-same Empty s = refl

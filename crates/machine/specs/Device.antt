@@ -11,7 +11,6 @@ use Rattle.motion.specs.Motion.{freshBody}
 use Rattle.buffer.specs.declared.course.State.the-variants.{Empty}
 use Rattle.machine.specs.declared.step.Core.{Core}
 use Rattle.machine.specs.declared.Device.{Device}
-use Rattle.machine.specs.declared.Used.{Used}
 use Rattle.machine.specs.declared.Used.the-variants.{Ticks, S3}
 use Rattle.machine.specs.declared.Ran.{Ran}
 use Rattle.buffer.specs.Course.{courseOf, noLoops}

@@ -5,7 +5,7 @@ use mathlib.Core.Bool.{Bool}
 use Rattle.settings.specs.Units.{ticksFor}
 use Rattle.motion.specs.declared.Travel.{Travel}
 use Rattle.motion.specs.declared.Activity.{Activity}
-use Rattle.motion.specs.Motion.{plungerOf, bodyAt, bodyKnown}
+use Rattle.motion.specs.Bodies.{plungerOf, bodyAt, bodyKnown}
 use Rattle.buffer.specs.declared.course.State.the-variants.{Running}
 use Rattle.machine.specs.declared.step.Core.{Core}
 use Rattle.machine.specs.declared.step.Stepped.{Stepped}

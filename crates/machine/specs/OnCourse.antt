@@ -8,10 +8,18 @@ use Rattle.command.specs.declared.refusal.Refusal.{Refusal}
 use Rattle.command.specs.declared.refusal.Refusal.the-variants as R
 use Rattle.motion.specs.declared.Sense.{Sense}
 use Rattle.motion.specs.declared.Activity.{Activity}
-use Rattle.motion.specs.declared.Activity.the-variants.{Ejecting, Between}
+use Rattle.motion.specs.declared.Activity.the-variants.{Initialising, Moving, Delaying, Approaching, Searching, Ejecting, Between}
 use Rattle.motion.specs.declared.Body.{Body}
 use Rattle.motion.specs.declared.Target.the-variants.{Outside}
 use Rattle.motion.specs.Motion.{targetOf, between}
+use Rattle.motion.specs.declared.Travel.{Travel}
+use Rattle.motion.specs.Bodies.{laterOf, plungerOf, bodyAt}
+use Rattle.motion.specs.Detect.{feltIn, noWayDown, settledAt}
+use Rattle.level.specs.declared.Search.{Search}
+use Rattle.level.specs.declared.Pressure.the-variants.{Beyond}
+use Rattle.level.specs.declared.Finding.the-variants.{Missed}
+use Rattle.level.specs.Level as Level
+use Rattle.level.specs.Level.{plungerIn, findingOf}
 use Rattle.settings.specs.declared.Volume.{Volume}
 use Rattle.settings.specs.Units.{millionthsOf}
 use Rattle.command.specs.declared.Way.{Way}
@@ -130,10 +138,35 @@ pub data Failing (s : Sense) (k : Command) (b : Body) : Refusal → Type 0 where
   -- 02, W-203: "10 for E0 without a tip; 7 for E1 uninitialised"
   tipless : k ≡ C.Eject false → s .tip ≡ false → Failing s k b R.NoTip
   unready : k ≡ C.Eject true → b .initialised ≡ false → Failing s k b R.NotInitialised
+  -- 02, W-206: "in the run, in this order, 7 uninitialised, 3 for p5 of 1 with p2 of 0, 5 for a reading outside -32767 to 32767"
+  unknown : (here : Bool) → k ≡ C.Detect here → b .initialised ≡ false → Failing s k b R.NotInitialised
+  no-way : (here : Bool) → k ≡ C.Detect here → b .initialised ≡ true → noWayDown (b .settings .detection) ≡ true → Failing s k b R.NoWayDown
+  no-zero : (here : Bool) → k ≡ C.Detect here → b .initialised ≡ true → noWayDown (b .settings .detection) ≡ false → feltIn s ≡ Beyond → Failing s k b R.TooMuchPressure
 
 -- and what is in progress and fails: "a tip still there is then an eject failure"
-pub data Breaking (s : Sense) : Activity → Refusal → Type 0 where
-  still-there : s .tip ≡ true → Breaking s Ejecting R.StillThere
+pub data Breaking (s : Sense) (b : Body) : Activity → Refusal → Type 0 where
+  still-there : s .tip ≡ true → Breaking s b Ejecting R.StillThere
+  -- 02, W-206: "5 .. in any tick from the one that takes B, 6 when p4 increments or the end of travel are reached in a tick without a find"
+  halted-move : (t : Travel) (z : ℕ) → feltIn s ≡ Beyond → Breaking s b (Approaching t z) R.TooMuchPressure
+  too-much : (f : Search) → feltIn s ≡ Beyond → Breaking s b (Searching f) R.TooMuchPressure
+  no-liquid : (f : Search) → findingOf (b .settings .detection) (Level.laterOf f) (feltIn s) ≡ Missed → Breaking s b (Searching f) R.NoLiquid
+
+-- what is left of the body: B moves the plunger first, and ends "as a start at the plunger"; all else fails with the body as it was
+abbrev pub leftBy : Activity → Body → Body
+leftBy (Initialising t) b = b
+leftBy (Moving t) b = b
+leftBy (Delaying k) b = b
+leftBy (Approaching t z) b = settledAt (bodyAt (plungerOf (laterOf t)) b)
+leftBy (Searching f) b = settledAt (bodyAt (plungerIn (b .settings .detection) (Level.laterOf f)) b)
+leftBy Ejecting b = b
+leftBy Between b = b
+
+abbrev pub leftIn : State → Body → Body
+leftIn Empty b = b
+leftIn Stored b = b
+leftIn (Running a) b = leftBy a b
+leftIn Stopped b = b
+leftIn Done b = b
 
 -- a tick that takes this command
 pub record Takes (text : List ℕ) (c : Core) (k : Command) : Type 0 where
@@ -144,10 +177,10 @@ pub record Takes (text : List ℕ) (c : Core) (k : Command) : Type 0 where
 -- why a run fails in a tick: in the command that it takes, or in what is in progress
 pub data Cause (text : List ℕ) (s : Sense) (c : Core) (why : Refusal) : Type 0 where
   taken : (k : Command) → Takes text c k → Failing s k (c .body) why → Cause text s c why
-  judged : (a : Activity) → c .course .state ≡ Running a → Breaking s a why → Cause text s c why
+  judged : (a : Activity) → c .course .state ≡ Running a → Breaking s (c .body) a why → Cause text s c why
 
 -- a tick in which a run fails
 pub record Fault (text : List ℕ) (s : Sense) (c : Core) : Type 0 where
   pub refusal : Refusal
   pub why : Cause text s c refusal
-  pub so : stepOf (around text s) c .next ≡ fails refusal (c .body) (c .course)
+  pub so : stepOf (around text s) c .next ≡ fails refusal (leftIn (c .course .state) (c .body)) (c .course)

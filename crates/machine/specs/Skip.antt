@@ -3,7 +3,7 @@ use Prim.Native.Nat.{ℕ, _+_, _-_, _≤_, min}
 use mathlib.Core.Path.{_≡_}
 use Rattle.motion.specs.declared.Travel.{Travel}
 use Rattle.motion.specs.declared.Activity.{Activity}
-use Rattle.motion.specs.declared.Activity.the-variants.{Initialising, Moving, Delaying, Ejecting, Between}
+use Rattle.motion.specs.declared.Activity.the-variants.{Initialising, Moving, Delaying, Approaching, Searching, Ejecting, Between}
 use Rattle.buffer.specs.declared.course.State.{State}
 use Rattle.buffer.specs.declared.course.State.the-variants.{Empty, Stored, Running, Stopped, Done}
 use Rattle.machine.specs.declared.step.Core.{Core}
@@ -33,6 +33,8 @@ unfoldable pub skippedIn : State → ℕ → Core → Skipped
 skippedIn (Running (Initialising t)) most c = let n = spareOf t most in passedBy (Initialising (since t (t .ticks + n))) n c
 skippedIn (Running (Moving t)) most c = let n = spareOf t most in passedBy (Moving (since t (t .ticks + n))) n c
 skippedIn (Running (Delaying k)) most c = skipped c 0
+skippedIn (Running (Approaching t z)) most c = skipped c 0
+skippedIn (Running (Searching s)) most c = skipped c 0
 skippedIn (Running Ejecting) most c = skipped c 0
 skippedIn (Running Between) most c = skipped c 0
 skippedIn Empty most c = skipped c 0

@@ -120,6 +120,14 @@ impl Core {
                 core: self,
                 used: 0,
             },
+            Activity::Approaching(_, _) => Skipped {
+                core: self,
+                used: 0,
+            },
+            Activity::Searching(_) => Skipped {
+                core: self,
+                used: 0,
+            },
             Activity::Ejecting => Skipped {
                 core: self,
                 used: 0,

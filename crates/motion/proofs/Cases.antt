@@ -5,7 +5,6 @@ use Prim.Native.Nat.{ℕ}
 use Rattle.basics.proofs.Rules.{tests}
 use Rattle.settings.specs.declared.Settings.{Settings}
 use Rattle.settings.specs.declared.Pace.{Pace}
-use Rattle.command.specs.declared.Way.{Way}
 use Rattle.command.specs.declared.Command.{Command}
 use Rattle.motion.specs.declared.Sense.{Sense}
 use Rattle.motion.specs.declared.Body.{Body}
@@ -13,11 +12,8 @@ use Rattle.motion.specs.declared.Travel.{Travel}
 use Rattle.motion.specs.declared.Activity.{Activity}
 use Rattle.motion.specs.declared.Effect.{Effect}
 use Rattle.motion.specs.declared.Effect.the-variants.{Goes, Ends}
-use Rattle.motion.specs.declared.Target.{Target}
-use Rattle.motion.specs.Motion.{targetOf, pacedOf, setTo, effectOf, plungerOf, bodyAt, bodyKnown, carried, onwardOf}
-
-pub target-case : (k j : Way) (by exact : ℕ) (r : Target) → k ≡ j → r ≡ targetOf j by exact → r ≡ targetOf k by exact
-target-case k j by exact r p e = rw p e
+use Rattle.motion.specs.Bodies.{plungerOf, bodyAt, bodyKnown}
+use Rattle.motion.specs.Motion.{pacedOf, setTo, effectOf, carried, onwardOf}
 
 pub pace-case : (k j : Pace) (n : ℕ) (s r : Settings) → k ≡ j → r ≡ pacedOf j n s → r ≡ pacedOf k n s
 pace-case k j n s r p e = rw p e

@@ -1,3 +1,5 @@
 pub mod Events
+pub mod Bodies
+pub mod Detect
 pub mod Motion
 pub mod Bounds

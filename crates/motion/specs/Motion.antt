@@ -4,11 +4,13 @@ use mathlib.Core.Bool.{Bool, true, false}
 use lib.Dec.{ltb, leb, eqb}
 use Rattle.basics.specs.Choice.{if_then_else_}
 use Rattle.settings.specs.declared.Settings.{Settings}
+use Rattle.settings.specs.declared.Detection.{Detection}
+use Rattle.settings.specs.declared.Aspect.{Aspect}
 use Rattle.settings.specs.declared.Volume.{Volume}
 use Rattle.settings.specs.declared.Pace.{Pace}
 use Rattle.settings.specs.declared.Pace.the-variants.{Top, Start, Cutoff}
-use Rattle.settings.specs.Limits.{travelMost, usualSettings}
-use Rattle.settings.specs.Units.{ticksOf, rateOf, millionthsOf, goalOf, goneOf}
+use Rattle.settings.specs.Limits.{travelMost, aspectSet, usualSettings}
+use Rattle.settings.specs.Units.{ticksOf, rateOf, millionthsOf, goalOf}
 use Rattle.command.specs.declared.Way.{Way}
 use Rattle.command.specs.declared.Way.the-variants.{To, Up, Down}
 use Rattle.command.specs.declared.refusal.Refusal.the-variants as R
@@ -18,38 +20,14 @@ use Rattle.motion.specs.declared.Sense.{Sense}
 use Rattle.motion.specs.declared.Body.{Body}
 use Rattle.motion.specs.declared.Travel.{Travel}
 use Rattle.motion.specs.declared.Activity.{Activity}
-use Rattle.motion.specs.declared.Activity.the-variants.{Initialising, Moving, Delaying, Ejecting, Between}
+use Rattle.motion.specs.declared.Activity.the-variants.{Initialising, Moving, Delaying, Approaching, Searching, Ejecting, Between}
 use Rattle.motion.specs.declared.Effect.{Effect}
 use Rattle.motion.specs.declared.Effect.the-variants.{Goes, Ends, Fails, Asks, Opens, Closes}
 use Rattle.motion.specs.declared.Target.{Target}
 use Rattle.motion.specs.declared.Target.the-variants.{At, Outside}
 use Rattle.motion.specs.Events.{Event, start, volume, Turn, quiet, told}
-
--- a movement that sets out, and a tick later
-abbrev pub travel : ℕ → ℕ → ℕ → Travel
-travel from goal speed = record { from = from; goal = goal; speed = speed; ticks = 0 }
-
-abbrev pub laterOf : Travel → Travel
-laterOf t = record { from = t .from; goal = t .goal; speed = t .speed; ticks = t .ticks + 1 }
-
--- where the plunger is by now: the distance gone, upwards or downwards
-unfoldable pub plungerOf : Travel → ℕ
-plungerOf t =
-    if leb (t .from) (t .goal)
-    then t .from + goneOf (t .ticks) (t .speed) (t .goal - t .from)
-    else t .from - goneOf (t .ticks) (t .speed) (t .from - t .goal)
-
-abbrev pub bodyAt : ℕ → Body → Body
-bodyAt p b = record { plunger = p; exact = b .exact; initialised = b .initialised; settings = b .settings }
-
-abbrev pub bodyFor : ℕ → Body → Body
-bodyFor e b = record { plunger = b .plunger; exact = e; initialised = b .initialised; settings = b .settings }
-
-abbrev pub bodyKnown : Bool → Body → Body
-bodyKnown i b = record { plunger = b .plunger; exact = b .exact; initialised = i; settings = b .settings }
-
-abbrev pub bodySet : Settings → Body → Body
-bodySet s b = record { plunger = b .plunger; exact = b .exact; initialised = b .initialised; settings = s }
+use Rattle.motion.specs.Bodies.{travel, laterOf, plungerOf, bodyAt, bodyFor, bodyKnown, bodySet, atPlunger}
+use Rattle.motion.specs.Detect.{feltIn, detectOf, approachedOf, searchedOf}
 
 -- "W clears "initialised", moves to 0, then sets it", at ten times its operand; the exact position is 0 in the tick that takes it
 unfoldable pub homeOf : ℕ → Body → Turn Effect
@@ -98,22 +76,25 @@ moveOf way v b =
     else quiet (Fails R.NotInitialised b)
 
 -- settings with one of them changed
-abbrev pub settingsOf : ℕ → ℕ → ℕ → ℕ → ℕ → ℕ → ℕ → Settings
-settingsOf a b c d e f g = record { top = a; start = b; cutoff = c; acceleration = d; deceleration = e; backlash = f; rate = g }
+abbrev pub settingsOf : ℕ → ℕ → ℕ → ℕ → ℕ → ℕ → ℕ → Detection → Settings
+settingsOf a b c d e f g h = record { top = a; start = b; cutoff = c; acceleration = d; deceleration = e; backlash = f; rate = g; detection = h }
 
 abbrev pub pacedOf : Pace → ℕ → Settings → Settings
-pacedOf Top n s = settingsOf n (s .start) (s .cutoff) (s .acceleration) (s .deceleration) (s .backlash) (s .rate)
-pacedOf Start n s = settingsOf (s .top) n (s .cutoff) (s .acceleration) (s .deceleration) (s .backlash) (s .rate)
-pacedOf Cutoff n s = settingsOf (s .top) (s .start) n (s .acceleration) (s .deceleration) (s .backlash) (s .rate)
+pacedOf Top n s = settingsOf n (s .start) (s .cutoff) (s .acceleration) (s .deceleration) (s .backlash) (s .rate) (s .detection)
+pacedOf Start n s = settingsOf (s .top) n (s .cutoff) (s .acceleration) (s .deceleration) (s .backlash) (s .rate) (s .detection)
+pacedOf Cutoff n s = settingsOf (s .top) (s .start) n (s .acceleration) (s .deceleration) (s .backlash) (s .rate) (s .detection)
 
 abbrev pub slopedOf : ℕ → ℕ → Settings → Settings
-slopedOf up down s = settingsOf (s .top) (s .start) (s .cutoff) up down (s .backlash) (s .rate)
+slopedOf up down s = settingsOf (s .top) (s .start) (s .cutoff) up down (s .backlash) (s .rate) (s .detection)
 
 abbrev pub backlashOf : ℕ → Settings → Settings
-backlashOf n s = settingsOf (s .top) (s .start) (s .cutoff) (s .acceleration) (s .deceleration) n (s .rate)
+backlashOf n s = settingsOf (s .top) (s .start) (s .cutoff) (s .acceleration) (s .deceleration) n (s .rate) (s .detection)
 
 abbrev pub ratedOf : ℕ → Settings → Settings
-ratedOf rate s = settingsOf (s .top) (s .start) (s .cutoff) (s .acceleration) (s .deceleration) (s .backlash) rate
+ratedOf rate s = settingsOf (s .top) (s .start) (s .cutoff) (s .acceleration) (s .deceleration) (s .backlash) rate (s .detection)
+
+abbrev pub detectingOf : Aspect → ℕ → Settings → Settings
+detectingOf a n s = settingsOf (s .top) (s .start) (s .cutoff) (s .acceleration) (s .deceleration) (s .backlash) (s .rate) (aspectSet a n (s .detection))
 
 -- "Settings .. end in that tick."
 abbrev pub setTo : Settings → Body → Effect
@@ -139,6 +120,8 @@ effectOf s (C.Slopes up down) b = quiet (setTo (slopedOf up down (b .settings)) 
 effectOf s (C.Backlash n) b = quiet (setTo (backlashOf n (b .settings)) b)
 effectOf s (C.Compensate n down) b = quiet (setTo (ratedOf (rateOf n down) (b .settings)) b)
 effectOf s (C.Delay ms) b = quiet (delayOf ms b)
+effectOf s (C.Set a n) b = quiet (setTo (detectingOf a n (b .settings)) b)
+effectOf s (C.Detect here) b = detectOf here s b
 effectOf s (C.Eject bare) b = quiet (ejectOf bare s b)
 effectOf s C.Open b = quiet Opens
 effectOf s (C.Close n) b = quiet (Closes n)
@@ -162,6 +145,8 @@ unfoldable pub onwardOf : Sense → Activity → Body → Turn Effect
 onwardOf s (Initialising t) b = quiet (carried Initialising true (laterOf t) b)
 onwardOf s (Moving t) b = quiet (carried Moving (b .initialised) (laterOf t) b)
 onwardOf s (Delaying k) b = quiet (waitedOf k b)
+onwardOf s (Approaching t z) b = let now = laterOf t in approachedOf (feltIn s) now z (bodyAt (plungerOf now) b)
+onwardOf s (Searching f) b = searchedOf (feltIn s) f b
 onwardOf s Ejecting b = quiet (ejectedOf s b)
 onwardOf s Between b = quiet (Ends b)
 
@@ -170,6 +155,8 @@ abbrev pub inMotion : Activity → Bool
 inMotion (Initialising t) = true
 inMotion (Moving t) = true
 inMotion (Delaying k) = false
+inMotion (Approaching t z) = true
+inMotion (Searching s) = true
 inMotion Ejecting = false
 inMotion Between = false
 
@@ -177,12 +164,10 @@ abbrev pub between : Activity → Bool
 between (Initialising t) = false
 between (Moving t) = false
 between (Delaying k) = false
+between (Approaching t z) = false
+between (Searching s) = false
 between Ejecting = false
 between Between = true
-
--- the exact position "is the plunger's" "after a cut movement or a reset"
-abbrev pub atPlunger : Body → ℕ
-atPlunger b = b .plunger * 1000000
 
 -- T: "a movement is cut where the plunger is"; "T without movement doesn't touch" the exact position
 unfoldable pub cutOf : Activity → Body → Turn Body

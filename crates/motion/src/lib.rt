@@ -2,6 +2,11 @@
 use command::Command;
 use command::Way;
 use command::refusal::Refusal;
+use level::Finding;
+use level::Pressure;
+use level::Search;
+use settings::Aspect;
+use settings::Detection;
 use settings::Pace;
 use settings::Settings;
 use settings::Volume;
@@ -11,7 +16,10 @@ ghost use mathlib.Core.Bool.{true};
 ghost use Prim.Native.Nat.{_≤_};
 ghost use Rattle.settings.specs.Limits.{travelMost};
 ghost use Rattle.settings.specs.Units.{rateOf};
-ghost use Rattle.motion.specs.Motion.{travel, laterOf, plungerOf, bodyAt, bodyFor, bodyKnown, atPlunger, homeOf, targetOf, within, setOut, aimed, moveOf, pacedOf, slopedOf, backlashOf, ratedOf, setTo, delayOf, ejectOf, effectOf, carried, waitedOf, ejectedOf, onwardOf, inMotion, between, cutOf, resetOf, freshBody};
+ghost use Rattle.level.specs.Level.{SearchOk};
+ghost use Rattle.motion.specs.Bodies.{travel, laterOf, plungerOf, bodyAt, bodyFor, bodyKnown, atPlunger, sensing, nothingSensed};
+ghost use Rattle.motion.specs.Detect.{feltIn, approachOf, zeroedOf, noWayDown, detectOf, approachedOf, foundAs, searchedOf};
+ghost use Rattle.motion.specs.Motion.{homeOf, targetOf, within, setOut, aimed, moveOf, pacedOf, slopedOf, backlashOf, ratedOf, detectingOf, setTo, delayOf, ejectOf, effectOf, carried, waitedOf, ejectedOf, onwardOf, inMotion, between, cutOf, resetOf, freshBody};
 ghost use Rattle.motion.specs.Bounds.{BodyOk, TravelOk, ActivityOk};
 
 // The exact position counts millionths of an increment.
@@ -30,16 +38,19 @@ pub struct Travel {
     pub ticks: u32,
 }
 
-// What a host hands in with a tick: whether it sees a tip.
+// What a host hands in with a tick: whether it sees a tip, and the pressure it reads.
 pub struct Sense {
     pub tip: bool,
+    pub reading: i32,
 }
 
-// What is in progress. A delay has so many ticks left. The host was asked to eject the tip, and the next tick judges it.
+// What is in progress. A delay has so many ticks left. B moves to where it begins, with the reading that is the zero, and then searches. The host was asked to eject the tip, and the next tick judges it.
 pub enum Activity {
     Initialising(Travel),
     Moving(Travel),
     Delaying(u32),
+    Approaching(Travel, u32),
+    Searching(Search),
     Ejecting,
     Between,
 }
@@ -69,6 +80,8 @@ impl Activity {
             Activity::Initialising(_) => true,
             Activity::Moving(_) => true,
             Activity::Delaying(_) => false,
+            Activity::Approaching(_, _) => true,
+            Activity::Searching(_) => true,
             Activity::Ejecting => false,
             Activity::Between => false,
         }
@@ -82,6 +95,8 @@ impl Activity {
             Activity::Initialising(_) => false,
             Activity::Moving(_) => false,
             Activity::Delaying(_) => false,
+            Activity::Approaching(_, _) => false,
+            Activity::Searching(_) => false,
             Activity::Ejecting => false,
             Activity::Between => true,
         }
@@ -193,6 +208,25 @@ fn sloped(up: u32, down: u32, s: Settings) -> Settings
     next
 }
 
+fn no_way_down(d: Detection) -> bool
+    ensures { λ r. ⌜ r ≡ noWayDown d ⌝ }
+{
+    if d.mode != 1 {
+        return false;
+    }
+    d.place == 0
+}
+
+// p.
+fn detecting(aspect: Aspect, n: u16, s: Settings) -> Settings
+    ensures { λ r. ⌜ r ≡ detectingOf aspect n s ⌝ }
+{
+    let detection = s.detection;
+    let mut next = s;
+    next.detection = detection.with(aspect, n);
+    next
+}
+
 // K.
 fn backlashed(n: u32, s: Settings) -> Settings
     ensures { λ r. ⌜ r ≡ backlashOf n s ⌝ }
@@ -210,6 +244,43 @@ fn compensated(b: u16, down: bool, s: Settings) -> Settings
     let rate = units::rate(b, down);
     next.rate = rate;
     next
+}
+
+impl Sense {
+    // Nothing there: no tip, and a reading of 0.
+    pub fn nothing() -> Sense
+        ensures { λ r. ⌜ r ≡ nothingSensed ⌝ }
+    {
+        Sense {
+            tip: false,
+            reading: 0,
+        }
+    }
+
+    // Another tip.
+    pub fn with_tip(self, tip: bool) -> Sense
+        ensures { λ r. ⌜ r ≡ sensing tip (self .reading) ⌝ }
+    {
+        let mut next = self;
+        next.tip = tip;
+        next
+    }
+
+    // Another reading.
+    pub fn with_reading(self, reading: i32) -> Sense
+        ensures { λ r. ⌜ r ≡ sensing (self .tip) reading ⌝ }
+    {
+        let mut next = self;
+        next.reading = reading;
+        next
+    }
+
+    fn felt(self) -> Pressure
+        ensures { λ r. ⌜ r ≡ feltIn self ⌝ }
+    {
+        let reading = self.reading;
+        level::felt(reading)
+    }
 }
 
 impl Body {
@@ -327,6 +398,66 @@ impl Body {
         Effect::Fails(Refusal::NotInitialised, self)
     }
 
+    // B0: to p2, and from there.
+    fn approach(self, zero: u32) -> Effect
+        requires { ⌜ BodyOk self ⌝ }
+        ensures { λ r. ⌜ r ≡ approachOf zero self ⌝ }
+    {
+        let from = self.plunger;
+        let settings = self.settings;
+        let detection = settings.detection;
+        let place = detection.place;
+        let exact = (place as u64) * 1_000_000;
+        let body = Body {
+            plunger: from,
+            exact,
+            initialised: self.initialised,
+            settings,
+        };
+        if from == place {
+            return Effect::Goes(body, Activity::Searching(Search::begin(place, zero)));
+        }
+        Effect::Goes(
+            body,
+            Activity::Approaching(Travel::new(from, place, settings.top), zero),
+        )
+    }
+
+    // B, where nothing but the reading can be wrong.
+    fn zeroed(self, here: bool, pressure: Pressure) -> Effect
+        requires { ⌜ BodyOk self ⌝ }
+        ensures { λ r. ⌜ r ≡ zeroedOf here pressure self .next ⌝ }
+    {
+        match pressure {
+            Pressure::Beyond => Effect::Fails(Refusal::TooMuchPressure, self),
+            Pressure::Counts(zero) => {
+                if here {
+                    return Effect::Goes(
+                        self,
+                        Activity::Searching(Search::begin(self.plunger, zero)),
+                    );
+                }
+                self.approach(zero)
+            }
+        }
+    }
+
+    // B.
+    fn detect(self, here: bool, sense: Sense) -> Effect
+        requires { ⌜ BodyOk self ⌝ }
+        ensures { λ r. ⌜ r ≡ detectOf here sense self .next ⌝ }
+    {
+        if !self.initialised {
+            return Effect::Fails(Refusal::NotInitialised, self);
+        }
+        let settings = self.settings;
+        let detection = settings.detection;
+        if no_way_down(detection) {
+            return Effect::Fails(Refusal::NoWayDown, self);
+        }
+        self.zeroed(here, sense.felt())
+    }
+
     // What a command does.
     pub fn effect(self, c: Command, sense: Sense) -> Effect
         requires { ⌜ BodyOk self ⌝ }
@@ -341,6 +472,8 @@ impl Body {
             Command::Backlash(n) => self.set_to(backlashed(n, settings)),
             Command::Compensate(b, down) => self.set_to(compensated(b, down, settings)),
             Command::Delay(ms) => self.delay(ms),
+            Command::Set(aspect, n) => self.set_to(detecting(aspect, n, settings)),
+            Command::Detect(here) => self.detect(here, sense),
             Command::Eject(bare) => self.eject(bare, sense),
             Command::Open => Effect::Opens,
             Command::Close(n) => Effect::Closes(n),
@@ -402,6 +535,56 @@ impl Body {
         Effect::Ends(self)
     }
 
+    // A tick of B's move to p2, the plunger moved.
+    fn approached(self, pressure: Pressure, t: Travel, zero: u32) -> Effect
+        ensures { λ r. ⌜ r ≡ approachedOf pressure t zero self .next ⌝ }
+    {
+        match pressure {
+            Pressure::Beyond => Effect::Fails(Refusal::TooMuchPressure, self.at_plunger()),
+            Pressure::Counts(_) => {
+                let p = self.plunger;
+                if p == t.goal {
+                    return Effect::Goes(self, Activity::Searching(Search::begin(p, zero)));
+                }
+                Effect::Goes(self, Activity::Approaching(t, zero))
+            }
+        }
+    }
+
+    // What a tick of the search has found, the plunger moved.
+    fn found(self, finding: Finding) -> Effect
+        ensures { λ r. ⌜ r ≡ foundAs finding self .next ⌝ }
+    {
+        let here = self.at_plunger();
+        match finding {
+            Finding::TooMuch => Effect::Fails(Refusal::TooMuchPressure, here),
+            Finding::Found => Effect::Ends(here),
+            Finding::Missed => Effect::Fails(Refusal::NoLiquid, here),
+            Finding::On(s) => Effect::Goes(self, Activity::Searching(s)),
+        }
+    }
+
+    // A tick of the search.
+    fn searched(self, pressure: Pressure, s: Search) -> Effect
+        requires { ⌜ SearchOk s ⌝ }
+        ensures { λ r. ⌜ r ≡ searchedOf pressure s self .next ⌝ }
+    {
+        let settings = self.settings;
+        let detection = settings.detection;
+        let sought = s.onward(detection, pressure);
+        let finding = sought.finding;
+        self.moved(sought.plunger, self.initialised).found(finding)
+    }
+
+    // A tick of B's move to p2.
+    fn nearer(self, sense: Sense, t: Travel, zero: u32) -> Effect
+        ensures { λ r. ⌜ r ≡ approachedOf (feltIn sense) t zero (bodyAt (plungerOf t) self) .next ⌝ }
+    {
+        let p = t.plunger();
+        self.moved(p, self.initialised)
+            .approached(sense.felt(), t, zero)
+    }
+
     // A tick of what is in progress.
     pub fn onward(self, activity: Activity, sense: Sense) -> Effect
         requires { ⌜ ActivityOk activity ⌝ }
@@ -411,6 +594,8 @@ impl Body {
             Activity::Initialising(t) => self.homewards(t.later()),
             Activity::Moving(t) => self.forwards(t.later()),
             Activity::Delaying(k) => self.waited(k),
+            Activity::Approaching(t, zero) => self.nearer(sense, t.later(), zero),
+            Activity::Searching(s) => self.searched(sense.felt(), s),
             Activity::Ejecting => self.ejected(sense),
             Activity::Between => Effect::Ends(self),
         }

@@ -1,5 +1,5 @@
 -- Theorems: `Valid` holds of a controller that is made, and is kept by bytes, one or many, ticks, runs and stops; so are the lengths of its two arrays.
-use mathlib.Core.Path.{_≡_, refl, _∙_}
+use mathlib.Core.Path.{_≡_, _∙_}
 use mathlib.Core.List.{List}
 use Prim.Native.Nat.{ℕ}
 use native.Mathlib.Omega.{arith}

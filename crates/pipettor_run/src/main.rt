@@ -134,7 +134,7 @@ fn tick(c: Controller) -> Controller
     requires { ⌜ Valid c ⌝ }
     ensures { λ r. ⌜ Valid r ⌝ }
 {
-    let ticked = c.tick(Sense { tip: false });
+    let ticked = c.tick(Sense::nothing());
     let after = ticked.controller;
     say(b"  tick");
     place(after);
@@ -270,7 +270,7 @@ fn wait(c: Controller, n: u32) -> Controller
     requires { ⌜ Valid c ⌝ }
     ensures { λ r. ⌜ Valid r ⌝ }
 {
-    let ticked = c.advance(n, Sense { tip: false });
+    let ticked = c.advance(n, Sense::nothing());
     let after = ticked.controller;
     say(b"  ticks ");
     number(n as u64);
@@ -295,7 +295,7 @@ fn run(c: Controller, n: u32) -> Controller
     requires { ⌜ Valid c ⌝ }
     ensures { λ r. ⌜ Valid r ⌝ }
 {
-    let ran = c.run(n, Sense { tip: false });
+    let ran = c.run(n, Sense::nothing());
     let u = ran.used;
     used(n, u);
     let ticked = ran.ticked;

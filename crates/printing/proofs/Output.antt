@@ -6,14 +6,13 @@ use Prim.Native.Nat.{ℕ, _+_, _-_, _*_, _/_, _%_, _≤_, _<_}
 use native.Mathlib.Omega.{arith}
 use mir.Syntax.{w64}
 use mir.Val.{Fits}
-use borrow.Author.Tests.{le-leb, lt-leb, eq-eqb, ne-eqb}
+use borrow.Author.Tests.{le-leb, lt-leb, ne-eqb}
 use lib.Dec.{leb, eqb}
 use lib.ListN.{length, take, drop, getD, length-append, length-take, length-drop, drop-of-length-le}
-use Rattle.basics.specs.Choice.{if_then_else_}
 use Rattle.basics.specs.Bytes.{chars}
 use Rattle.basics.specs.declared.Put.{Put}
 use Rattle.basics.specs.declared.Put.the-variants.{Bytes, NoRoom}
-use Rattle.basics.specs.Lay.{Laid, over}
+use Rattle.basics.specs.Lay.{Laid}
 use Rattle.basics.proofs.Choice.{by}
 use Rattle.basics.proofs.Lists.{drop-step, front-counted}
 use Rattle.basics.proofs.Over.{over-none, length-over}

@@ -4,9 +4,10 @@ use mathlib.Core.Bool.{Bool, true, false, _&&_}
 use lib.Dec.{eqb, leb}
 use Rattle.basics.specs.Choice.{if_then_else_}
 use Rattle.settings.specs.declared.Settings.{Settings}
+use Rattle.settings.specs.declared.Detection.{Detection}
 use Rattle.settings.specs.Units.{flowOf, nanolitresOf}
 use Rattle.line.specs.declared.Report.the-variants.{Nothing, Character, Whole, Tenths, Thousandths}
-use Rattle.motion.specs.declared.Activity.the-variants.{Initialising, Moving, Delaying, Ejecting, Between}
+use Rattle.motion.specs.declared.Activity.the-variants.{Initialising, Moving, Delaying, Approaching, Searching, Ejecting, Between}
 use Rattle.motion.specs.declared.Body.{Body}
 use Rattle.motion.specs.Bounds.{BodyOk}
 use Rattle.text.specs.declared.Question.{Question}
@@ -22,6 +23,8 @@ unfoldable pub goalIn : State → ℕ → ℕ
 goalIn (Running (Initialising t)) plunger = t .goal
 goalIn (Running (Moving t)) plunger = t .goal
 goalIn (Running (Delaying k)) plunger = plunger
+goalIn (Running (Approaching t z)) plunger = t .goal
+goalIn (Running (Searching s)) plunger = plunger
 goalIn (Running Ejecting) plunger = plunger
 goalIn (Running Between) plunger = plunger
 goalIn Empty plunger = plunger
@@ -65,7 +68,19 @@ settingOf n s =
     else if eqb n 20 then Says (Thousandths (flowOf (s .cutoff)))
     else No
 
--- "0 goal .., 1 plunger, 3 plunger in µL .., 29 and 67", and the tip; what is set stands at 4 to 20; "Others 3"
+-- 02, W-206: p0 to p6 "reported by ?32 to ?38"; p3 in increments a second, with one decimal. "Others 3"
+unfoldable pub aspectIn : ℕ → Detection → Told
+aspectIn n d =
+    if eqb n 32 then Says (Whole (d .threshold))
+    else if eqb n 33 then Says (Whole (d .duration))
+    else if eqb n 34 then Says (Whole (d .place))
+    else if eqb n 35 then Says (Tenths (d .speed))
+    else if eqb n 36 then Says (Whole (d .most))
+    else if eqb n 37 then Says (Whole (d .mode))
+    else if eqb n 38 then Says (Whole (d .interval))
+    else No
+
+-- "0 goal .., 1 plunger, 3 plunger in µL .., 29 and 67", and the tip; what is set stands at 4 to 20 and at 32 to 38
 unfoldable pub valueOf : ℕ → Bool → Body → State → Told
 valueOf n tip b s =
     if eqb n 0 then Says (Whole (goalIn s (b .plunger)))
@@ -74,6 +89,7 @@ valueOf n tip b s =
     else if leb 4 n && leb n 20 then settingOf n (b .settings)
     else if eqb n 29 then Says (Whole (busyIn s))
     else if eqb n 31 then Says (Whole (tipIn tip))
+    else if leb 32 n && leb n 38 then aspectIn n (b .settings .detection)
     else if eqb n 67 then Says (Whole (textIn s))
     else No
 

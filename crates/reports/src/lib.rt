@@ -4,6 +4,7 @@ use buffer::course::State;
 use line::Report;
 use motion::Activity;
 use motion::Body;
+use settings::Detection;
 use settings::Settings;
 use settings::units;
 use text::Question;
@@ -12,7 +13,7 @@ ghost use Prim.Native.Nat.{_≤_};
 ghost use Rattle.settings.specs.Units.{flowOf, nanolitresOf};
 ghost use Rattle.settings.specs.Limits.{Kept};
 ghost use Rattle.motion.specs.Bounds.{BodyOk};
-ghost use Rattle.reports.specs.Reports.{Tellable, goalIn, busyIn, textIn, tipIn, settingOf, valueOf, queryOf, tellOf};
+ghost use Rattle.reports.specs.Reports.{Tellable, goalIn, busyIn, textIn, tipIn, settingOf, aspectIn, valueOf, queryOf, tellOf};
 
 // What a report says, or that there is none of this number.
 pub enum Told {
@@ -27,6 +28,8 @@ fn goal_while(activity: Activity, plunger: u32) -> u32
         Activity::Initialising(t) => t.goal,
         Activity::Moving(t) => t.goal,
         Activity::Delaying(_) => plunger,
+        Activity::Approaching(t, _) => t.goal,
+        Activity::Searching(_) => plunger,
         Activity::Ejecting => plunger,
         Activity::Between => plunger,
     }
@@ -117,12 +120,29 @@ fn setting(n: u32, s: Settings) -> Told
     }
 }
 
+// p0 to p6.
+fn aspect(n: u32, d: Detection) -> Told
+    ensures { λ r. ⌜ r ≡ aspectIn n d ⌝ }
+{
+    match n {
+        32 => Told::Says(Report::Whole(d.threshold)),
+        33 => Told::Says(Report::Whole(d.duration)),
+        34 => Told::Says(Report::Whole(d.place)),
+        35 => Told::Says(Report::Tenths(d.speed)),
+        36 => Told::Says(Report::Whole(d.most)),
+        37 => Told::Says(Report::Whole(d.mode)),
+        38 => Told::Says(Report::Whole(d.interval)),
+        _ => Told::No,
+    }
+}
+
 // ? with a number.
 fn value(n: u32, tip: bool, b: Body, state: State) -> Told
     requires { ⌜ BodyOk b ⌝ }
     ensures { λ r. ⌜ r ≡ valueOf n tip b state ⌝ }
 {
     let settings = b.settings;
+    let detection = settings.detection;
     let plunger = b.plunger;
     match n {
         0 => Told::Says(Report::Whole(goal_in(state, plunger))),
@@ -131,6 +151,7 @@ fn value(n: u32, tip: bool, b: Body, state: State) -> Told
         4..=20 => setting(n, settings),
         29 => Told::Says(Report::Whole(busy_in(state))),
         31 => Told::Says(Report::Whole(tip_in(tip))),
+        32..=38 => aspect(n, detection),
         67 => Told::Says(Report::Whole(text_in(state))),
         _ => Told::No,
     }

@@ -9,7 +9,8 @@ use Rattle.settings.specs.declared.Range.{Range}
 use Rattle.settings.specs.declared.Volume.{Volume}
 use Rattle.settings.specs.declared.Quantity.the-variants.{Home, Increments, Nanolitres, Slope, Backlash, Compensation, Choice, Delay, Passes}
 use Rattle.settings.specs.declared.Pace.the-variants.{Top, Start, Cutoff}
-use Rattle.settings.specs.Limits.{within, rangeOf, usualOf, speedsOf, flowsOf, usualSpeed, usualSettings}
+use Rattle.settings.specs.declared.Aspect.the-variants.{Threshold, Duration, Place, Speed, Most, Mode, Interval}
+use Rattle.settings.specs.Limits.{within, rangeOf, usualOf, speedsOf, flowsOf, usualSpeed, aspectsOf, usualAspect, usualSettings}
 use Rattle.settings.specs.Units.{nearest, tenthsOf, flowOf, ticksOf, rateOf, millionthsOf, goalOf, nanolitresOf, goneOf}
 
 infix 68 _takes_ _refuses_ _gives_
@@ -118,6 +119,44 @@ table =
     flowsOf Cutoff takes 1999999 ∷
     flowsOf Cutoff takes 2000000 ∷
     flowsOf Cutoff refuses 2000001 ∷
+    aspectsOf Threshold refuses 0 ∷  -- p0
+    aspectsOf Threshold takes 1 ∷
+    aspectsOf Threshold takes 2 ∷
+    aspectsOf Threshold takes 999 ∷
+    aspectsOf Threshold takes 1000 ∷
+    aspectsOf Threshold refuses 1001 ∷
+    aspectsOf Duration refuses 0 ∷  -- p1
+    aspectsOf Duration takes 1 ∷
+    aspectsOf Duration takes 2 ∷
+    aspectsOf Duration takes 99 ∷
+    aspectsOf Duration takes 100 ∷
+    aspectsOf Duration refuses 101 ∷
+    aspectsOf Place takes 0 ∷  -- p2
+    aspectsOf Place takes 1 ∷
+    aspectsOf Place takes 43999 ∷
+    aspectsOf Place takes 44000 ∷
+    aspectsOf Place refuses 44001 ∷
+    aspectsOf Speed refuses 99 ∷  -- p3
+    aspectsOf Speed takes 100 ∷
+    aspectsOf Speed takes 101 ∷
+    aspectsOf Speed takes 999 ∷
+    aspectsOf Speed takes 1000 ∷
+    aspectsOf Speed refuses 1001 ∷
+    aspectsOf Most refuses 499 ∷  -- p4
+    aspectsOf Most takes 500 ∷
+    aspectsOf Most takes 501 ∷
+    aspectsOf Most takes 43999 ∷
+    aspectsOf Most takes 44000 ∷
+    aspectsOf Most refuses 44001 ∷
+    aspectsOf Mode takes 0 ∷  -- p5
+    aspectsOf Mode takes 1 ∷
+    aspectsOf Mode refuses 2 ∷
+    aspectsOf Interval refuses 0 ∷  -- p6
+    aspectsOf Interval takes 1 ∷
+    aspectsOf Interval takes 2 ∷
+    aspectsOf Interval takes 19 ∷
+    aspectsOf Interval takes 20 ∷
+    aspectsOf Interval refuses 21 ∷
     usualOf Home gives 6000 ∷  -- the defaults
     usualOf Increments gives 0 ∷
     usualOf Nanolitres gives 0 ∷
@@ -130,6 +169,13 @@ table =
     usualSpeed Top gives 80000 ∷
     usualSpeed Start gives 10000 ∷
     usualSpeed Cutoff gives 80000 ∷
+    usualAspect Threshold gives 15 ∷
+    usualAspect Duration gives 5 ∷
+    usualAspect Place gives 0 ∷
+    usualAspect Speed gives 150 ∷
+    usualAspect Most gives 44000 ∷
+    usualAspect Mode gives 0 ∷
+    usualAspect Interval gives 20 ∷
     usualSettings .top gives 80000 ∷  -- the settings of a fresh or reset controller
     usualSettings .start gives 10000 ∷
     usualSettings .cutoff gives 80000 ∷
@@ -137,6 +183,13 @@ table =
     usualSettings .deceleration gives 20 ∷
     usualSettings .backlash gives 0 ∷
     usualSettings .rate gives 40000 ∷
+    usualSettings .detection .threshold gives 15 ∷
+    usualSettings .detection .duration gives 5 ∷
+    usualSettings .detection .place gives 0 ∷
+    usualSettings .detection .speed gives 1500 ∷
+    usualSettings .detection .most gives 44000 ∷
+    usualSettings .detection .mode gives 0 ∷
+    usualSettings .detection .interval gives 20 ∷
     ticksOf 9 gives 0 ∷  -- M9
     ticksOf 14 gives 1 ∷  -- M14
     ticksOf 15 gives 2 ∷  -- M15

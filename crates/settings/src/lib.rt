@@ -2,13 +2,24 @@
 pub mod units;
 
 ghost use mathlib.Core.Path.{_≡_};
-ghost use Rattle.settings.specs.Limits.{_to_, within, rangeOf, usualOf, speedsOf, flowsOf, usualSpeed, usualSettings};
+ghost use Rattle.settings.specs.Limits.{_to_, within, rangeOf, usualOf, speedsOf, flowsOf, usualSpeed, aspectsOf, usualAspect, aspectSet, usualDetection, usualSettings};
 
 // The three speeds: V, v and c.
 pub enum Pace {
     Top,
     Start,
     Cutoff,
+}
+
+// What p sets, p0 to p6.
+pub enum Aspect {
+    Threshold,
+    Duration,
+    Place,
+    Speed,
+    Most,
+    Mode,
+    Interval,
 }
 
 // What else a number of the command table can be.
@@ -36,6 +47,17 @@ pub struct Volume {
     pub micro: bool,
 }
 
+// What a search for the liquid goes by: p0 to p6, the speed in tenths of an increment a second.
+pub struct Detection {
+    pub threshold: u32,
+    pub duration: u32,
+    pub place: u32,
+    pub speed: u32,
+    pub most: u32,
+    pub mode: u32,
+    pub interval: u32,
+}
+
 // Speeds in tenths of an increment a second; rate is 01's C, millionths of an increment for a nL.
 pub struct Settings {
     pub top: u32,
@@ -45,6 +67,7 @@ pub struct Settings {
     pub deceleration: u32,
     pub backlash: u32,
     pub rate: u32,
+    pub detection: Detection,
 }
 
 impl Range {
@@ -61,6 +84,60 @@ impl Range {
             return false;
         }
         n <= self.most
+    }
+}
+
+impl Detection {
+    fn default() -> Detection
+        ensures { λ r. ⌜ r ≡ usualDetection ⌝ }
+    {
+        Detection {
+            threshold: Settings::THRESHOLD_USUAL,
+            duration: Settings::DURATION_USUAL,
+            place: Settings::PLACE_USUAL,
+            speed: Settings::SEARCH_SPEED_USUAL * 10,
+            most: Settings::SEARCH_USUAL,
+            mode: Settings::MODE_USUAL,
+            interval: Settings::INTERVAL_USUAL,
+        }
+    }
+
+    // p: one of them set anew.
+    pub fn with(self, aspect: Aspect, n: u16) -> Detection
+        ensures { λ r. ⌜ r ≡ aspectSet aspect n self ⌝ }
+    {
+        let mut next = self;
+        let to = n as u32;
+        match aspect {
+            Aspect::Threshold => {
+                next.threshold = to;
+                return next;
+            }
+            Aspect::Duration => {
+                next.duration = to;
+                return next;
+            }
+            Aspect::Place => {
+                next.place = to;
+                return next;
+            }
+            Aspect::Speed => {
+                next.speed = to * 10;
+                return next;
+            }
+            Aspect::Most => {
+                next.most = to;
+                return next;
+            }
+            Aspect::Mode => {
+                next.mode = to;
+                return next;
+            }
+            Aspect::Interval => {
+                next.interval = to;
+                return next;
+            }
+        }
     }
 }
 
@@ -125,7 +202,7 @@ impl Settings {
     pub const COMPENSATION_USUAL: u32 = 0;
 
     pub const RATE_USUAL: u32 = 40_000;
-    // The second number of A, P, D, V, v, c and b; E.
+    // The second number of A, P, D, V, v, c and b; E and B.
     pub const CHOICE_LEAST: u32 = 0;
 
     pub const CHOICE_MOST: u32 = 1;
@@ -143,6 +220,48 @@ impl Settings {
     pub const PASSES_MOST: u32 = 50_000;
 
     pub const PASSES_USUAL: u32 = 0;
+    // p0: how far from the zero a reading must be.
+    pub const THRESHOLD_LEAST: u32 = 1;
+
+    pub const THRESHOLD_MOST: u32 = 1_000;
+
+    pub const THRESHOLD_USUAL: u32 = 15;
+    // p1: milliseconds.
+    pub const DURATION_LEAST: u32 = 1;
+
+    pub const DURATION_MOST: u32 = 100;
+
+    pub const DURATION_USUAL: u32 = 5;
+    // p2: where B0 begins.
+    pub const PLACE_LEAST: u32 = 0;
+
+    pub const PLACE_MOST: u32 = 44_000;
+
+    pub const PLACE_USUAL: u32 = 0;
+    // p3: increments a second.
+    pub const SEARCH_SPEED_LEAST: u32 = 100;
+
+    pub const SEARCH_SPEED_MOST: u32 = 1_000;
+
+    pub const SEARCH_SPEED_USUAL: u32 = 150;
+    // p4: increments.
+    pub const SEARCH_LEAST: u32 = 500;
+
+    pub const SEARCH_MOST: u32 = 44_000;
+
+    pub const SEARCH_USUAL: u32 = 44_000;
+    // p5: 0 aspirates, 1 dispenses.
+    pub const MODE_LEAST: u32 = 0;
+
+    pub const MODE_MOST: u32 = 1;
+
+    pub const MODE_USUAL: u32 = 0;
+    // p6: milliseconds; kept and reported.
+    pub const INTERVAL_LEAST: u32 = 1;
+
+    pub const INTERVAL_MOST: u32 = 20;
+
+    pub const INTERVAL_USUAL: u32 = 20;
 
     pub fn default() -> Settings
         ensures { λ r. ⌜ r ≡ usualSettings ⌝ }
@@ -155,6 +274,7 @@ impl Settings {
             deceleration: Settings::SLOPE_USUAL,
             backlash: Settings::BACKLASH_USUAL,
             rate: Settings::RATE_USUAL,
+            detection: Detection::default(),
         }
     }
 
@@ -231,6 +351,42 @@ impl Settings {
             Pace::Top => Settings::SPEED_USUAL,
             Pace::Start => Settings::START_SPEED_USUAL,
             Pace::Cutoff => Settings::SPEED_USUAL,
+        }
+    }
+
+    // The second number of p, by its first.
+    pub fn aspects(of: Aspect) -> Range
+        ensures { λ r. ⌜ r ≡ aspectsOf of ⌝ }
+    {
+        match of {
+            Aspect::Threshold => Range::between(
+                Settings::THRESHOLD_LEAST,
+                Settings::THRESHOLD_MOST,
+            ),
+            Aspect::Duration => Range::between(Settings::DURATION_LEAST, Settings::DURATION_MOST),
+            Aspect::Place => Range::between(Settings::PLACE_LEAST, Settings::PLACE_MOST),
+            Aspect::Speed => Range::between(
+                Settings::SEARCH_SPEED_LEAST,
+                Settings::SEARCH_SPEED_MOST,
+            ),
+            Aspect::Most => Range::between(Settings::SEARCH_LEAST, Settings::SEARCH_MOST),
+            Aspect::Mode => Range::between(Settings::MODE_LEAST, Settings::MODE_MOST),
+            Aspect::Interval => Range::between(Settings::INTERVAL_LEAST, Settings::INTERVAL_MOST),
+        }
+    }
+
+    // And what it is where it is absent.
+    pub fn usual_aspect(of: Aspect) -> u32
+        ensures { λ r. ⌜ r ≡ usualAspect of ⌝ }
+    {
+        match of {
+            Aspect::Threshold => Settings::THRESHOLD_USUAL,
+            Aspect::Duration => Settings::DURATION_USUAL,
+            Aspect::Place => Settings::PLACE_USUAL,
+            Aspect::Speed => Settings::SEARCH_SPEED_USUAL,
+            Aspect::Most => Settings::SEARCH_USUAL,
+            Aspect::Mode => Settings::MODE_USUAL,
+            Aspect::Interval => Settings::INTERVAL_USUAL,
         }
     }
 }

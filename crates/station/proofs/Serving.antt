@@ -1,17 +1,16 @@
 -- Laws of `specs/Serve`, one for each function's return.
-use mathlib.Core.Path.{_≡_, refl, sym, ap, _∙_}
-use mathlib.Core.Bool.{Bool, true, false}
+use mathlib.Core.Path.{_≡_, refl, sym, ap, subst, _∙_}
+use mathlib.Core.Bool.{Bool, false}
 use mathlib.Core.List.{List, [], _∷_, _++_}
-use Prim.Native.Nat.{ℕ, zero, suc, _+_, _-_, _*_, _≤_, _<_}
+use Prim.Native.Nat.{ℕ, zero, suc, _+_, _-_, _*_, _≤_}
 use native.Mathlib.Omega.{arith}
 use lib.Dec.{eqb}
 use lib.ListN.{length, take, drop, length-drop, length-replicate}
 use Rattle.basics.specs.Bytes.{chars}
 use Rattle.basics.proofs.Lists.{tail-all}
-use Rattle.line.specs.Wire.{slash, cr}
 use Rattle.desk.specs.declared.Desk.{Desk}
 use Rattle.desk.specs.declared.Quantity.{Quantity}
-use Rattle.desk.specs.declared.Quantity.the-variants.{Ticks, Run, Lend, New, Tip}
+use Rattle.desk.specs.declared.Quantity.the-variants.{Ticks, Run, Lend, New, Tip, Press, Minus}
 use Rattle.desk.specs.declared.Asked.{Asked}
 use Rattle.desk.specs.declared.Asked.the-variants.{Send, Number, Stop, Raw, Wrong}
 use Rattle.desk.specs.Desk.{mostOf, askedOf}
@@ -37,19 +36,25 @@ use Rattle.pipettor.specs.Controller.{madeOf, advancedOf, runOf, stoppedOf}
 use Rattle.pipettor.specs.Listening.{listenedOf}
 use Rattle.pipettor.specs.Valid.{Valid}
 use Rattle.pipettor.specs.Returns.{Returns, Keeps}
+use lib.IntN.{ℤ, pos, negℤ}
+use mir.Syntax.{w32}
+use mir.Val.{SFits, toZ, ofZ}
+use mir.Facts.{toZ-ofZ}
+use Rattle.motion.specs.declared.Sense.{Sense}
+use Rattle.motion.specs.Bodies.{sensing, nothingSensed}
 use Rattle.station.specs.declared.Station.{Station}
-use Rattle.station.specs.declared.Told.{Told}
 use Rattle.station.specs.declared.Replied.{Replied}
 use Rattle.printing.specs.Print.{ended, shownOf, placeOf, usedOf, addedOf, Prints}
-use Rattle.station.specs.Serve.{station, sensing, atStart, on, blank, Served, served, toldOf, heardOf, after, shownBy, endedOf, goneOn, sentBy, sentOf, placedOf, showsAsk, waitedOf, usedUp, ranOf, haltedOf, lentOf, tippedOf, madeBy, numberedOf, addedBy, saidTo, rawOf, didOf, servedOf, Manned, Starts, Tells, Replies}
+use Rattle.station.specs.Serve.{station, on, blank, Served, served, toldOf, heardOf, after, shownBy, endedOf, goneOn, sentBy, sentOf, placedOf, showsAsk, waitedOf, usedUp, ranOf, haltedOf, lentOf, sensedOf, tippedOf, pressedOf, madeBy, numberedOf, addedBy, saidTo, rawOf, didOf, servedOf, Manned, Starts, Tells, Replies}
 use Rattle.printing.proofs.Output.{shorter}
+use Rattle.station.proofs.Signs.{small-back, minus-back}
 
 -- a station with another controller
 moved : (s k : Station) (c : Controller) → k ≡ on c s → Manned s → Valid c → Manned k
 moved s k c e m v = rw e (record { valid = v; lend = m .lend })
 
-pub starts : (desk : Desk) (c : Controller) → Returns c (madeOf One .next) c → Starts desk (record { desk = desk; lend = 32; sense = sensing false; controller = c })
-starts desk c r = record { is = ap (station desk 32 (sensing false)) (r .is); manned = record { valid = r .again; lend = omega arith } }
+pub starts : (desk : Desk) (c : Controller) → Returns c (madeOf One .next) c → (x : Sense) → x ≡ nothingSensed → Starts desk (record { desk = desk; lend = 32; sense = x; controller = c })
+starts desk c r x e = record { is = rw e (ap (station desk 32 nothingSensed) (r .is)); manned = record { valid = r .again; lend = omega arith } }
 
 -- a byte
 pub tells :
@@ -159,9 +164,21 @@ module _ (s : Station) (m : Manned s) (at end : ℕ) (out left : List ℕ) where
   unfolding madeBy
   makes-none n g f e p = rw (← f, e) (record { is = refl; again = m; prints = p })
 
+  pub senses : (x : Sense) → Prints 3 (ended (111 ∷ 107 ∷ [])) at out end left → Replies 3 (sensedOf x s) at out (record { station = station (s .desk) (s .lend) x (s .controller); end = end }) left
+  unfolding sensedOf
+  senses x p = record { is = refl; again = record { valid = m .valid; lend = m .lend }; prints = p }
+
   pub asks-back : Prints 2 (ended (63 ∷ [])) at out end left → Replies 2 (didOf Wrong [] s) at out (record { station = s; end = end }) left
   unfolding didOf
   asks-back p = record { is = refl; again = m; prints = p }
+
+-- another sense
+pub sensed-so : (x y : Sense) (s : Station) (at : ℕ) (out : List ℕ) (r : Replied) (left : List ℕ) → x ≡ y → Replies 3 (sensedOf x s) at out r left → Replies 3 (sensedOf y s) at out r left
+sensed-so x y s at out r left e q = rw e at q
+
+-- a reading is handed on as bits, which are that reading
+pub pressed-so : (x : Sense) (z : ℤ) (s : Station) (at : ℕ) (out : List ℕ) (r : Replied) (left : List ℕ) → SFits w32 z → x ≡ sensing (s .sense .tip) (toZ w32 (ofZ w32 z)) → Replies 3 (sensedOf x s) at out r left → Replies 3 (pressedOf z s) at out r left
+pressed-so x z s at out r left fits e q = subst (λ (y : ℤ). Replies 3 (pressedOf y s) at out r left) (toZ-ofZ fits) (rw e at q)
 
 pub makes : (n : ℕ) (g : Given) (a : Address) (s : Station) (at : ℕ) (out : List ℕ) (r : Replied) (left : List ℕ) → g ≡ addressOf n → g ≡ Is a → Replies 3 (madeBy (Is a) s) at out r left → Replies 3 (madeBy (addressOf n) s) at out r left
 makes n g a s at out r left f e q = rw (← f, e) q
@@ -183,9 +200,28 @@ module _ (q : Quantity) (n : ℕ) (s : Station) (at : ℕ) (out : List ℕ) (r :
   unfolding numberedOf
   numbered-lend e p = rw e (weaker 3 65 (lentOf n s) at out r left (omega arith) p)
 
-  pub numbered-tip : q ≡ Tip → Replies 3 (tippedOf n s) at out r left → Replies 65 (numberedOf q n s) at out r left
+  pub numbered-tip : q ≡ Tip → Replies 3 (tippedOf (eqb n 1) s) at out r left → Replies 65 (numberedOf q n s) at out r left
   unfolding numberedOf
-  numbered-tip e p = rw e (weaker 3 65 (tippedOf n s) at out r left (omega arith) p)
+  numbered-tip e p = rw e (weaker 3 65 (tippedOf (eqb n 1) s) at out r left (omega arith) p)
+
+  module _ (x : ℤ) (p : Replies 3 (pressedOf (toZ w32 (ofZ w32 x)) s) at out r left) where
+    pub numbered-press : q ≡ Press → n ≤ mostOf q → x ≡ pos n → Replies 65 (numberedOf q n s) at out r left
+    unfolding numberedOf
+    numbered-press e m h =
+        let back : toZ w32 (ofZ w32 x) ≡ pos n = ap (λ (y : ℤ). toZ w32 (ofZ w32 y)) h ∙ small-back n (rw e at m) in
+        rw (e, ← back) (weaker 3 65 (pressedOf (toZ w32 (ofZ w32 x)) s) at out r left (omega arith) p)
+
+    pub numbered-minus : q ≡ Minus → n ≤ mostOf q → x ≡ negℤ (pos n) → Replies 65 (numberedOf q n s) at out r left
+    unfolding numberedOf
+    numbered-minus e m h =
+        let back : toZ w32 (ofZ w32 x) ≡ negℤ (pos n) = ap (λ (y : ℤ). toZ w32 (ofZ w32 y)) h ∙ minus-back n (rw e at m) in
+        rw (e, ← back) (weaker 3 65 (pressedOf (toZ w32 (ofZ w32 x)) s) at out r left (omega arith) p)
+
+  pub press-within : q ≡ Press → n ≤ mostOf q → n ≤ 40000
+  press-within e h = rw e at h
+
+  pub minus-within : q ≡ Minus → n ≤ mostOf q → n ≤ 40000
+  minus-within e h = rw e at h
 
   pub numbered-new : q ≡ New → Replies 3 (madeBy (addressOf n) s) at out r left → Replies 65 (numberedOf q n s) at out r left
   unfolding numberedOf

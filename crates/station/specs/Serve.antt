@@ -7,11 +7,13 @@ use lib.Dec.{eqb}
 use lib.ListN.{length, drop, replicate}
 use Rattle.basics.specs.Bytes.{chars}
 use Rattle.line.specs.Wire.{slash, cr}
+use lib.IntN.{ℤ, pos, negℤ}
 use Rattle.motion.specs.declared.Sense.{Sense}
+use Rattle.motion.specs.Bodies.{sensing, nothingSensed}
 use Rattle.desk.specs.declared.Desk.{Desk}
 use Rattle.desk.specs.declared.Desk.the-variants.{Bench, Rig}
 use Rattle.desk.specs.declared.Quantity.{Quantity}
-use Rattle.desk.specs.declared.Quantity.the-variants.{Ticks, Run, Lend, New, Tip}
+use Rattle.desk.specs.declared.Quantity.the-variants.{Ticks, Run, Lend, New, Tip, Press, Minus}
 use Rattle.desk.specs.declared.Asked.{Asked}
 use Rattle.desk.specs.declared.Asked.the-variants.{Send, Number, Stop, Raw, Wrong}
 use Rattle.desk.specs.Desk.{askedOf}
@@ -36,12 +38,9 @@ use Rattle.printing.specs.Print.{ended, shownOf, placeOf, usedOf, addedOf, clos
 abbrev pub station : Desk → ℕ → Sense → Controller → Station
 station desk lend sense k = record { desk = desk; lend = lend; sense = sense; controller = k }
 
-abbrev pub sensing : Bool → Sense
-sensing tip = record { tip = tip }
-
--- "Address 1"; answer buffers of 32 bytes and no tip at first
+-- "Address 1"; answer buffers of 32 bytes, no tip and a reading of 0 at first
 abbrev pub atStart : Desk → Station
-atStart desk = station desk 32 (sensing false) (madeOf One .next)
+atStart desk = station desk 32 nothingSensed (madeOf One .next)
 
 abbrev pub on : Controller → Station → Station
 on k s = station (s .desk) (s .lend) (s .sense) k
@@ -115,9 +114,15 @@ haltedOf s = placedOf (stoppedOf (s .controller) .next) false s
 abbrev pub lentOf : ℕ → Station → Served
 lentOf n s = served (station (s .desk) n (s .sense) (s .controller)) (ended (chars "ok"))
 
--- "the tip from now on"
-abbrev pub tippedOf : ℕ → Station → Served
-tippedOf n s = served (station (s .desk) (s .lend) (sensing (eqb n 1)) (s .controller)) (ended (chars "ok"))
+-- what the host senses from now on: "the tip from now on"; "the reading from now on"
+unfoldable pub sensedOf : Sense → Station → Served
+sensedOf x s = served (station (s .desk) (s .lend) x (s .controller)) (ended (chars "ok"))
+
+abbrev pub tippedOf : Bool → Station → Served
+tippedOf tip s = sensedOf (sensing tip (s .sense .reading)) s
+
+abbrev pub pressedOf : ℤ → Station → Served
+pressedOf reading s = sensedOf (sensing (s .sense .tip) reading) s
 
 -- "a fresh controller of that address ..; n not in 1 to 9 leaves the old one"
 unfoldable pub madeBy : Given → Station → Served
@@ -129,7 +134,9 @@ numberedOf Ticks n s = waitedOf n s
 numberedOf Run n s = ranOf n s
 numberedOf Lend n s = lentOf n s
 numberedOf New n s = madeBy (addressOf n) s
-numberedOf Tip n s = tippedOf n s
+numberedOf Tip n s = tippedOf (eqb n 1) s
+numberedOf Press n s = pressedOf (pos n) s
+numberedOf Minus n s = pressedOf (negℤ (pos n)) s
 
 -- "raw bytes", one after the other, and what each adds to what was said
 abbrev pub silent : List ℕ → Bool

@@ -17,7 +17,9 @@ ghost use Rattle.desk.specs.Desk.{mostOf};
 ghost use Rattle.desk.specs.Hex.{bytesIn};
 ghost use Rattle.pipettor.specs.Valid.{Valid};
 ghost use Rattle.pipettor.specs.Address.{addressOf};
-ghost use Rattle.station.specs.Serve.{on, toldOf, shownBy, addedBy, goneOn, endedOf, sentOf, placedOf, showsAsk, waitedOf, usedUp, ranOf, haltedOf, lentOf, tippedOf, madeBy, numberedOf, saidTo, rawOf, didOf, servedOf, Manned, Starts, Tells, Replies};
+ghost use lib.Dec.{eqb};
+ghost use lib.IntN.{pos, negℤ};
+ghost use Rattle.station.specs.Serve.{on, toldOf, shownBy, addedBy, goneOn, endedOf, sentOf, placedOf, showsAsk, waitedOf, usedUp, ranOf, haltedOf, lentOf, sensedOf, tippedOf, pressedOf, madeBy, numberedOf, saidTo, rawOf, didOf, servedOf, Manned, Starts, Tells, Replies};
 
 // Whose lines are taken, how many bytes the answer buffers have, what the host senses, and the controller.
 pub struct Station {
@@ -49,6 +51,21 @@ fn shows(desk: Desk, asked: bool) -> bool
     }
 }
 
+// A number, and the same below 0.
+fn above(n: u32) -> i32
+    requires { ⌜ n ≤ 40000 ⌝ }
+    ensures { λ r. ⌜ r ≡ pos n ⌝ }
+{
+    n as i32
+}
+
+fn below(n: u32) -> i32
+    requires { ⌜ n ≤ 40000 ⌝ }
+    ensures { λ r. ⌜ r ≡ negℤ (pos n) ⌝ }
+{
+    0 - above(n)
+}
+
 impl Station {
     // "Address 1."
     pub fn new(desk: Desk) -> Station
@@ -58,7 +75,7 @@ impl Station {
         Station {
             desk,
             lend: 32,
-            sense: Sense { tip: false },
+            sense: Sense::nothing(),
             controller,
         }
     }
@@ -256,11 +273,11 @@ impl Station {
         }
     }
 
-    // A tip from now on, or none.
-    fn tip(self, n: u32, out: &mut [u8], at: usize) -> Replied
+    // What the host senses from now on.
+    fn senses(self, sense: Sense, out: &mut [u8], at: usize) -> Replied
         requires { ⌜ Manned self ⌝ }
         requires { ⌜ at + 3 ≤ length (now out) ⌝ }
-        ensures { λ r. ⌜ Replies 3 (tippedOf n self) at (now (out .entry)) r (now (out .exit)) ⌝ }
+        ensures { λ r. ⌜ Replies 3 (sensedOf sense self) at (now (out .entry)) r (now (out .exit)) ⌝ }
     {
         let desk = self.desk;
         let controller = self.controller;
@@ -269,11 +286,31 @@ impl Station {
             station: Station {
                 desk,
                 lend: self.lend,
-                sense: Sense { tip: n == 1 },
+                sense,
                 controller,
             },
             end,
         }
+    }
+
+    // A tip from now on, or none.
+    fn tip(self, n: u32, out: &mut [u8], at: usize) -> Replied
+        requires { ⌜ Manned self ⌝ }
+        requires { ⌜ at + 3 ≤ length (now out) ⌝ }
+        ensures { λ r. ⌜ Replies 3 (tippedOf (eqb n 1) self) at (now (out .entry)) r (now (out .exit)) ⌝ }
+    {
+        let sense = self.sense;
+        self.senses(sense.with_tip(n == 1), out, at)
+    }
+
+    // A reading from now on.
+    fn press(self, reading: i32, out: &mut [u8], at: usize) -> Replied
+        requires { ⌜ Manned self ⌝ }
+        requires { ⌜ at + 3 ≤ length (now out) ⌝ }
+        ensures { λ r. ⌜ Replies 3 (pressedOf reading self) at (now (out .entry)) r (now (out .exit)) ⌝ }
+    {
+        let sense = self.sense;
+        self.senses(sense.with_reading(reading), out, at)
     }
 
     // A fresh controller.
@@ -317,6 +354,8 @@ impl Station {
             Quantity::Lend => self.buffers(n, out, at),
             Quantity::New => self.make(n, out, at),
             Quantity::Tip => self.tip(n, out, at),
+            Quantity::Press => self.press(above(n), out, at),
+            Quantity::Minus => self.press(below(n), out, at),
         }
     }
 

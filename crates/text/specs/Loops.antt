@@ -27,6 +27,8 @@ partOf (C.Slopes up down) = plain
 partOf (C.Backlash n) = plain
 partOf (C.Compensate b down) = plain
 partOf (C.Delay ms) = plain
+partOf (C.Set a n) = plain
+partOf (C.Detect here) = plain
 partOf (C.Eject bare) = plain
 
 -- nothing; a command and what follows; a loop with its g, its body, its passes and its G, and what follows. Each command with its places

@@ -33,6 +33,8 @@ fn level_after(open: usize, c: Command) -> Level
         Command::Backlash(_) => Level::At(open),
         Command::Compensate(_, _) => Level::At(open),
         Command::Delay(_) => Level::At(open),
+        Command::Set(_, _) => Level::At(open),
+        Command::Detect(_) => Level::At(open),
         Command::Eject(_) => Level::At(open),
     }
 }

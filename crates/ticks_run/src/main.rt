@@ -29,7 +29,7 @@ fn ticks(start: Controller) -> Controller
     let mut c = start;
     let mut k = 0u32;
     while k < 1_000_000 {
-        let ticked = c.tick(Sense { tip: false });
+        let ticked = c.tick(Sense::nothing());
         c = ticked.controller;
         k += 1;
     }
@@ -43,7 +43,7 @@ fn runs(start: Controller) -> Controller
     let mut c = start;
     let mut k = 0u32;
     while k < 20 {
-        let ran = c.run(50_000, Sense { tip: false });
+        let ran = c.run(50_000, Sense::nothing());
         let ticked = ran.ticked;
         c = ticked.controller;
         k += 1;

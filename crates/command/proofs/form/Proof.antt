@@ -10,7 +10,7 @@ use Rattle.command.specs.declared.Way.{Way}
 use Rattle.command.specs.declared.Letter.{Letter}
 use Rattle.command.specs.declared.Command.{Command}
 use Rattle.command.specs.declared.Formed.{Formed}
-use Rattle.command.specs.Table.{oneOf, volumeOf, pacedOf, slopesOf, compensationOf, commandOf}
+use Rattle.command.specs.Table.{oneOf, volumeOf, pacedOf, slopesOf, compensationOf, aspectOf, commandOf}
 use Rattle.command.proofs.form.Statement.{statement}
 use Rattle.command.proofs.form.Tie as tie
 
@@ -32,10 +32,13 @@ module _ (r : Formed) where
     of-slopes : r ≡ slopesOf p → r ≡ slopesOf q
     of-slopes h = rw e at h
 
+    of-aspect : r ≡ aspectOf p → r ≡ aspectOf q
+    of-aspect h = rw e at h
+
     of-compensation : r ≡ compensationOf p → r ≡ compensationOf q
     of-compensation h = rw e at h
 
-ruleset laws = (needs, arm, of-one, of-volume, of-paced, of-slopes, of-compensation)
+ruleset laws = (needs, arm, of-one, of-volume, of-paced, of-slopes, of-compensation, of-aspect)
 
 pub form-spec : {M : Type 1} → statement M
 unfolding commandOf
@@ -68,9 +71,17 @@ form-spec =
     (λ c κs. search laws)
     (λ c. search laws)
     (λ c κs. search laws)
+    (λ c κs. search laws)
     (λ c. search laws)
     (λ c κs. search laws)
     (λ c κs. search laws)
+    (λ c. search laws)
+    (λ c κs. search laws)
+    (λ c. search laws)
+    (λ c κs. search laws)
+    (λ c κs. search laws)
+    (λ c. search laws)
+    (λ c. search laws)
     (λ c. search laws)
     (λ c. search laws)
     (λ c. search laws)

@@ -23,4 +23,6 @@ letter-of-spec =
     (λ c. search (row letterOf))
     (λ c. search (row letterOf))
     (λ c. search (row letterOf))
+    (λ c. search (row letterOf))
+    (λ c. search (row letterOf))
     (λ c. search ne-eqb))

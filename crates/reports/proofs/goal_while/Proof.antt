@@ -20,4 +20,8 @@ goal-while-spec =
     (λ c. search laws)
     (λ c. search laws)
     (λ c. search laws)
+    (λ c. search laws)
+    (λ c. search laws)
+    (λ c. search laws)
+    (λ c. search laws)
     (λ c. search laws))

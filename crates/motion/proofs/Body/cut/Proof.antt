@@ -3,7 +3,8 @@ use mathlib.Core.Bool.{Bool, true, false}
 use borrow.Author.Needs.{needs}
 use Rattle.motion.specs.declared.Body.{Body}
 use Rattle.motion.specs.declared.Activity.{Activity}
-use Rattle.motion.specs.Motion.{bodyFor, atPlunger, inMotion, cutOf}
+use Rattle.motion.specs.Bodies.{bodyFor, atPlunger}
+use Rattle.motion.specs.Motion.{inMotion, cutOf}
 use Rattle.motion.proofs.Body.cut.Statement.{statement}
 use Rattle.motion.proofs.Body.cut.Tie as tie
 

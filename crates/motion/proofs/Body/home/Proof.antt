@@ -8,7 +8,8 @@ use Rattle.motion.specs.declared.Travel.{Travel}
 use Rattle.motion.specs.declared.Activity.the-variants.{Initialising}
 use Rattle.motion.specs.declared.Effect.{Effect}
 use Rattle.motion.specs.declared.Effect.the-variants.{Goes, Ends}
-use Rattle.motion.specs.Motion.{travel, bodyFor, bodyKnown, homeOf}
+use Rattle.motion.specs.Bodies.{travel, bodyFor, bodyKnown}
+use Rattle.motion.specs.Motion.{homeOf}
 use Rattle.motion.proofs.Body.home.Statement.{statement}
 use Rattle.motion.proofs.Body.home.Tie as tie
 

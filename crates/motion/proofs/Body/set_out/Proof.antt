@@ -12,7 +12,8 @@ use Rattle.motion.specs.declared.Travel.{Travel}
 use Rattle.motion.specs.declared.Activity.the-variants.{Moving}
 use Rattle.motion.specs.declared.Effect.{Effect}
 use Rattle.motion.specs.declared.Effect.the-variants.{Goes, Ends}
-use Rattle.motion.specs.Motion.{travel, bodyFor, setOut}
+use Rattle.motion.specs.Bodies.{travel, bodyFor}
+use Rattle.motion.specs.Motion.{setOut}
 use Rattle.motion.proofs.Body.set_out.Statement.{statement}
 use Rattle.motion.proofs.Body.set_out.Tie as tie
 

@@ -8,7 +8,7 @@ use Rattle.basics.proofs.Rules.{tests}
 use Rattle.settings.specs.Units.{goneOf}
 use Rattle.settings.proofs.Motion.{distance-gone-is-at-most-the-distance}
 use Rattle.motion.specs.declared.Travel.{Travel}
-use Rattle.motion.specs.Motion.{plungerOf}
+use Rattle.motion.specs.Bodies.{plungerOf}
 use Rattle.motion.proofs.Travel.plunger.Statement.{statement}
 use Rattle.motion.proofs.Travel.plunger.Tie as tie
 

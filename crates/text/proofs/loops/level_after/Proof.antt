@@ -59,4 +59,8 @@ level-after-spec =
     (λ c. search laws)
     (λ c. search laws)
     (λ c. search laws)
+    (λ c. search laws)
+    (λ c. search laws)
+    (λ c. search laws)
+    (λ c. search laws)
     (λ c. search laws))

@@ -1,0 +1,4 @@
+pub mod Way
+pub mod Ends
+pub mod Keeps
+pub mod Trail
