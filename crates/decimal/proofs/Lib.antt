@@ -1,5 +1,5 @@
-pub mod Trim
 pub mod Digits
-pub mod Scratch
+pub mod Trim
+pub mod Written
 pub mod PlaceValue
 pub mod Examples

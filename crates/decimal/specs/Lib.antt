@@ -1,2 +1,2 @@
 pub mod Digits
-pub mod Scratch
+pub mod Written

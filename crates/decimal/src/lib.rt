@@ -1,11 +1,12 @@
 // Numbers written in decimal into a buffer that the caller lends: whole of 32 or 64 bits, with one decimal, with three.
+// How many digits a number has is found first; then each digit is written once, into its final place, from the rightmost.
 use basics::Put;
 ghost use mathlib.Core.Path.{_≡_};
-ghost use Prim.Native.Nat.{_-_, _≤_, _^_};
+ghost use Prim.Native.Nat.{_+_, _-_, _/_, _≤_, _^_};
 ghost use lib.ListN.{length};
 ghost use Rattle.basics.specs.Lay.{Laid, over};
 ghost use Rattle.decimal.specs.Digits.{lastDigits, longOf, countOf, fixedOf};
-ghost use Rattle.decimal.specs.Scratch.{Counted, Idle, Before};
+ghost use Rattle.decimal.specs.Written.{behind, behindSize, writtenOf};
 
 // The decimals of a fraction: one for increments a second, three for µL.
 enum Decimals {
@@ -16,23 +17,39 @@ enum Decimals {
 impl Decimals {
     // How many they are.
     fn count(self) -> usize
-        ensures { λ r. ⌜ Counted self r ⌝ }
+        ensures { λ r. ⌜ r ≡ countOf self ⌝ }
     {
         match self {
             Decimals::One => 1,
             Decimals::Three => 3,
         }
     }
+}
 
-    // How many units of the last decimal make a whole.
-    fn unit(self) -> u64
-        ensures { λ r. ⌜ r ≡ 10 ^ countOf self ⌝ }
-    {
-        match self {
-            Decimals::One => 10,
-            Decimals::Three => 1000,
-        }
+// How many digits n has without leading zeros; 0 has one.
+fn length_of(n: u64) -> usize
+    ensures { λ r. ⌜ longOf n ≡ lastDigits r n ⌝ }
+{
+    let mut rest = n;
+    let mut lower = 0;
+    while 9 < rest {
+        rest /= 10;
+        lower += 1;
     }
+    lower + 1
+}
+
+// n without its last k digits.
+fn without_last(k: usize, n: u64) -> u64
+    ensures { λ r. ⌜ r ≡ n / 10 ^ k ⌝ }
+{
+    let mut rest = n;
+    let mut i = 0;
+    while i < k {
+        rest /= 10;
+        i += 1;
+    }
+    rest
 }
 
 // The last k digits of n, the last of them just before `end`.
@@ -51,66 +68,72 @@ fn put_last(k: usize, n: u64, buf: &mut [u8], end: usize)
     }
 }
 
-// How many leading zeros a number is written without.
-fn idle_zeros(digits: &[u8]) -> usize
-    ensures { λ r. ⌜ Idle (now (digits .entry)) r ⌝ }
+// How many bytes stand behind the whole part: none, or a point and the decimals.
+fn size_behind(decimals: usize) -> usize
+    requires { ⌜ decimals ≤ 3 ⌝ }
+    ensures { λ r. ⌜ r ≡ behindSize decimals ⌝ }
 {
-    let mut i = 0;
-    while i < digits.len() {
-        if digits[i] != 48 {
-            return i;
-        }
-        let next = i + 1;
-        if next == digits.len() {
-            return i;
-        }
-        i = next;
+    if decimals == 0 {
+        return 0;
     }
-    i
+    decimals + 1
 }
 
-// The last k digits of n without leading zeros, the last of them just before `end`; where they begin.
-fn put_before(k: usize, n: u64, buf: &mut [u8], end: usize) -> usize
-    requires { ⌜ (k ≤ end) × (end ≤ length (now buf)) ⌝ }
-    ensures { λ r. ⌜ Before k n end (now (buf .entry)) r (now (buf .exit)) ⌝ }
+// What stands behind the whole part, from `at` on.
+fn put_behind(decimals: usize, n: u64, buf: &mut [u8], at: usize)
+    requires { ⌜ at + behindSize decimals ≤ length (now buf) ⌝ }
+    ensures { λ _. ⌜ now (buf .exit) ≡ over (behind decimals n) at (now (buf .entry)) ⌝ }
 {
-    put_last(k, n, buf, end);
-    let start = end - k;
-    let idle = idle_zeros(&buf[start..end]);
-    start + idle
+    if decimals == 0 {
+        return;
+    }
+    let first = at + 1;
+    put_last(decimals, n, buf, first + decimals);
+    buf[at] = b'.';
 }
 
-// n in units of the last decimal.
+// n in units of the last decimal, from the rightmost digit; nothing where there is no room for all of it.
+fn put_fixed(decimals: usize, n: u64, buf: &mut [u8], at: usize) -> Put
+    requires { ⌜ decimals ≤ 3 ⌝ }
+    ensures { λ r. ⌜ Laid (writtenOf decimals n) at (now (buf .entry)) r (now (buf .exit)) ⌝ }
+{
+    let whole = without_last(decimals, n);
+    let digits = length_of(whole);
+    let behind = size_behind(decimals);
+    let size = digits + behind;
+    let room = buf.len();
+    if room < at {
+        return Put::NoRoom;
+    }
+    if room - at < size {
+        return Put::NoRoom;
+    }
+    let point = at + digits;
+    put_behind(decimals, n, buf, point);
+    put_last(digits, whole, buf, point);
+    Put::Bytes(size)
+}
+
+// n of 32 bits in units of the last decimal.
 fn put_pointed(n: u32, with: Decimals, buf: &mut [u8], at: usize) -> Put
     ensures { λ r. ⌜ Laid (fixedOf (countOf with) n) at (now (buf .entry)) r (now (buf .exit)) ⌝ }
 {
     let decimals = with.count();
-    let mut scratch = [0u8; 14];
-    let units = n as u64;
-    put_last(decimals, units, &mut scratch, 14);
-    let end = 13 - decimals;
-    scratch[end] = b'.';
-    let unit = with.unit();
-    let from = put_before(10, units / unit, &mut scratch, end);
-    basics::lay(&scratch[from..], buf, at)
+    put_fixed(decimals, n as u64, buf, at)
 }
 
 // A whole number.
 pub fn put_whole(n: u32, buf: &mut [u8], at: usize) -> Put
     ensures { λ r. ⌜ Laid (fixedOf 0 n) at (now (buf .entry)) r (now (buf .exit)) ⌝ }
 {
-    let mut scratch = [0u8; 10];
-    let from = put_before(10, n as u64, &mut scratch, 10);
-    basics::lay(&scratch[from..], buf, at)
+    put_fixed(0, n as u64, buf, at)
 }
 
 // A whole number of 64 bits.
 pub fn put_long(n: u64, buf: &mut [u8], at: usize) -> Put
     ensures { λ r. ⌜ Laid (longOf n) at (now (buf .entry)) r (now (buf .exit)) ⌝ }
 {
-    let mut scratch = [0u8; 20];
-    let from = put_before(20, n, &mut scratch, 20);
-    basics::lay(&scratch[from..], buf, at)
+    put_fixed(0, n, buf, at)
 }
 
 // Tenths, with one decimal: 80000 is `8000.0`.
