@@ -42,7 +42,7 @@ events-two (c ∷ xs) ys k =
     rw (events-two xs ys (t .next), append-assoc (t .events) (eventsOf xs (t .next)) (eventsOf ys (afterOf xs (t .next))))
 
 -- no call changes the address
-call-keeps-address : (c : Call) (k : Controller) → callOf c k .next .address ≡ k .address
+pub call-keeps-address : (c : Call) (k : Controller) → callOf c k .next .address ≡ k .address
 unfolding callOf byteOf heardOf listenedOf tickedOf stoppedOf advancedOf runOf
 call-keeps-address (byte b l) k = by (λ (t : Turn After). t .next .reply .controller .address ≡ k .address) (ltb (length (l .buffer)) 32) (λ h. refl) (λ h. refl)
 call-keeps-address (listen bytes) k = refl

@@ -41,7 +41,7 @@ use Rattle.demands.proofs.Sound.{call-keeps-sized, call-keeps-valid, ma
 use Rattle.demands.proofs.Exchanges.{after-two, answers-two, events-two, the-address-stays}
 
 -- a receiver that holds what is in hand: the first 320 data bytes, and a count of 321 for more
-abbrev Shows : Hand → Received → Type 0
+abbrev pub Shows : Hand → Received → Type 0
 Shows none r = r .line ≡ Outside
 Shows begun r = r .line ≡ Started
 Shows (to a ds) r = (r .line ≡ Collecting a (min 321 (length ds))) × (take (min 320 (length ds)) (r .frame) ≡ take 320 ds)
@@ -133,7 +133,7 @@ other ours h r b s but =
     by (λ (x : Heard). Other ours (x .deed)) (printable b) (λ e. take-other ours (r .line) b) (λ e. tt)))
 
 -- a byte with a buffer that is long enough: a CR leaves nothing in hand, whatever it completes; any other byte is only heard
-abbrev In : Hand → Controller → Type 0
+abbrev pub In : Hand → Controller → Type 0
 In h k = Shows h (receiver k)
 
 module _ (h : Hand) (k : Controller) (buf : List ℕ) (long : 32 ≤ length buf) (s : In h k) where
@@ -162,7 +162,7 @@ byte-called b buf h k n s =
     (λ e. long-called h k buf (ltb-false (length buf) 32 e) s b n)
 
 -- any calls
-called : (c : Call) (h : Hand) (k : Controller) → length (k .frame) ≡ 320 → In h k → In (handsOf h (broughtBy c)) (callOf c k .next)
+pub called : (c : Call) (h : Hand) (k : Controller) → length (k .frame) ≡ 320 → In h k → In (handsOf h (broughtBy c)) (callOf c k .next)
 unfolding handsOf callOf listenedOf tickedOf stoppedOf advancedOf runOf
 called (byte b l) h k n s = byte-called b (l .buffer) h k n s
 called (listen bytes) h k n s = all-heard h (receiver k) (beforeCr bytes) n s
@@ -247,32 +247,43 @@ in-hand-exactly calls a ds =
       always = λ e. rw (e .whole) (hands-append none (e .noise) (slash ∷ a ∷ ds) ∙ begins (handsOf none (e .noise)) a ds (e .address) (e .bytes));
     }
 
--- one more byte
-module _ (a : Address) (calls : List Call) where
-  ending : (ds buf : List ℕ) → inHand calls ≡ to (letterOf a) ds → 32 ≤ length buf → byteSeen (after a calls) cr buf ≡ exchangeOf ds a (after a calls .device) buf
+-- one more byte: what is seen of it depends on what is in hand, the address and the device
+module _ (h : Hand) (k : Controller) (s : In h k) where
+  pub ending : (ds buf : List ℕ) → h ≡ to (letterOf (k .address)) ds → 32 ≤ length buf → byteSeen k cr buf ≡ exchangeOf ds (k .address) (k .device) buf
   unfolding hearOf endOf
   ending ds buf hand long =
-      let us = the-address-stays a calls in
-      let holds = subst (λ (h : Hand). In h (after a calls)) hand (the-receiver-holds-what-is-in-hand a calls) in
-      let deed : hearOf (after a calls .line) cr .deed ≡ W.Frame (letterOf (after a calls .address)) (min 321 (length ds)) = rw (holds .0, us) in
-      let e = ends (after a calls) ds buf long deed (holds .1) in
-      rw (e .said, e .buffer, e .device, e .events, us)
+      let holds = subst (λ (x : Hand). In x k) hand s in
+      let deed : hearOf (k .line) cr .deed ≡ W.Frame (letterOf (k .address)) (min 321 (length ds)) = rw (holds .0) in
+      let e = ends k ds buf long deed (holds .1) in
+      rw (e .said, e .buffer, e .device, e .events)
 
-  silent : (b : ℕ) (buf : List ℕ) → EndsNone a calls b → 32 ≤ length buf → byteSeen (after a calls) b buf ≡ unheeded (after a calls) buf
-  silent b buf but long =
-      let holds = the-receiver-holds-what-is-in-hand a calls in
-      let o = other (letterOf a) (inHand calls) (receiver (after a calls)) b holds but in
-      let p = subst (λ (x : Address). Other (letterOf x) (hearOf (after a calls .line) b .deed)) (sym (the-address-stays a calls)) o in
-      rw (byte-other (after a calls) b buf long p)
+  pub silent : (b : ℕ) (buf : List ℕ) → (b ≡ cr → (ds : List ℕ) → h ≡ to (letterOf (k .address)) ds → ⊥) → 32 ≤ length buf → byteSeen k b buf ≡ unheeded k buf
+  silent b buf but long = rw (byte-other k b buf long (other (letterOf (k .address)) h (receiver k) b s but))
+
+-- after any calls
+module _ (a : Address) (calls : List Call) where
+  abbrev holds : In (inHand calls) (after a calls)
+  holds = the-receiver-holds-what-is-in-hand a calls
+
+  abbrev us : letterOf (after a calls .address) ≡ letterOf a
+  us = ap letterOf (the-address-stays a calls)
+
+  after-ending : (ds buf : List ℕ) → inHand calls ≡ to (letterOf a) ds → 32 ≤ length buf → byteSeen (after a calls) cr buf ≡ exchangeOf ds a (after a calls .device) buf
+  after-ending ds buf hand long =
+      ending (inHand calls) (after a calls) holds ds buf (hand ∙ ap (λ (x : ℕ). to x ds) (sym us)) long
+      ∙ ap (λ (x : Address). exchangeOf ds x (after a calls .device) buf) (the-address-stays a calls)
+
+  after-silent : (b : ℕ) (buf : List ℕ) → EndsNone a calls b → 32 ≤ length buf → byteSeen (after a calls) b buf ≡ unheeded (after a calls) buf
+  after-silent b buf but long = silent (inHand calls) (after a calls) holds b buf (λ e ds hand. but e ds (hand ∙ ap (λ (x : ℕ). to x ds) us)) long
 
 pub every-controller-receives : (a : Address) (calls : List Call) → Receives a calls
 unfolding callOf listenedOf
 every-controller-receives a calls =
     record {
       a-frame-is-in-hand-where-the-bytes-end-in-it = in-hand-exactly calls;
-      a-frame-that-ends-is-an-exchange = ending a calls;
-      a-frame-that-ends-is-treated-by-the-table = λ ds buf hand long. rw (ending a calls ds buf hand long) (an-exchange-is-treated-by-the-table ds a (after a calls .device) buf);
-      every-other-byte-is-silent = silent a calls;
+      a-frame-that-ends-is-an-exchange = after-ending a calls;
+      a-frame-that-ends-is-treated-by-the-table = λ ds buf hand long. rw (after-ending a calls ds buf hand long) (an-exchange-is-treated-by-the-table ds a (after a calls .device) buf);
+      every-other-byte-is-silent = after-silent a calls;
       listening-does-nothing = λ bytes. (refl, refl);
     }
 
@@ -296,7 +307,7 @@ module _ (p : Program) (a : Address) (calls : List Call) where
   an-agreeing-program-receives agrees =
       record {
         a-frame-that-ends-is-an-exchange =
-            λ ds buf hand long takes. subst (HandsBack p a calls cr buf) (ending a calls ds buf hand long) (hands-back cr buf (agrees (oneByte calls cr buf) takes));
+            λ ds buf hand long takes. subst (HandsBack p a calls cr buf) (after-ending a calls ds buf hand long) (hands-back cr buf (agrees (oneByte calls cr buf) takes));
         every-other-byte-is-silent =
-            λ b buf but long takes. subst (HandsBack p a calls b buf) (silent a calls b buf but long) (hands-back b buf (agrees (oneByte calls b buf) takes));
+            λ b buf but long takes. subst (HandsBack p a calls b buf) (after-silent a calls b buf but long) (hands-back b buf (agrees (oneByte calls b buf) takes));
       }

@@ -17,3 +17,4 @@ pub mod OneLine
 pub mod Tips
 pub mod Beginnings
 pub mod Searches
+pub mod Noise

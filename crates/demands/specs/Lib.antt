@@ -11,3 +11,4 @@ pub mod Records
 pub mod Parts
 pub mod Tips
 pub mod Searches
+pub mod Noise
