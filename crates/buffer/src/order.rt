@@ -5,15 +5,10 @@ use command::refusal::Refusal;
 use command::refusal::Verdict;
 use text::loops;
 ghost use mathlib.Core.Path.{_≡_};
-ghost use mathlib.Core.Bool.{true};
-ghost use mathlib.Core.List.{[]};
 ghost use Prim.Native.Nat.{_+_};
 ghost use lib.Dec.{ltb};
-ghost use lib.ListN.{length};
-ghost use Rattle.basics.specs.Choice.{if_then_else_};
-ghost use Rattle.text.specs.Text.{readOf};
-ghost use Rattle.text.specs.Loops.{loopsIn};
-ghost use Rattle.buffer.specs.Order.{cellOf, orderOf, keptOf, sized, verdictOf, laidBy, storedBy};
+ghost use Rattle.buffer.specs.Order.{cellOf, orderOf, keptOf, verdictOf, laidBy, storedBy};
+ghost use Rattle.buffer.specs.Look.{loadLook, changeLook, lookOf};
 
 // A string without R, a string with R, R, X, C, T and !R.
 pub enum Action {
@@ -48,6 +43,12 @@ pub enum Order {
     Refuse(Refusal),
     Load(Loading, bool),
     Change(Change),
+}
+
+// What the lengths of its texts say of an order: a verdict, or that loops decide, of so much of the stored text and so much of what is added.
+enum Look {
+    Says(Verdict),
+    Loops(usize, usize),
 }
 
 fn store_in(column: Column) -> Order
@@ -161,61 +162,59 @@ impl Loading {
     }
 }
 
-// A text in two parts: its length, and its loops where it is to run.
-fn load(front: &[u8], added: &[u8], run: bool) -> Verdict
-    ensures { λ r. ⌜ r ≡ sized (length (now (front .entry)) + length (now (added .entry))) (if run then loopsIn (readOf (now (front .entry))) (readOf (now (added .entry))) else true) ⌝ }
+// A text of two parts: its length, and whether it is to run.
+fn look_at(kept: usize, added: usize, run: bool) -> Look
+    ensures { λ r. ⌜ r ≡ loadLook kept added run ⌝ }
 {
-    if too_long(front.len(), added.len()) {
-        return Verdict::Refused(Refusal::TooLong);
+    if too_long(kept, added) {
+        return Look::Says(Verdict::Refused(Refusal::TooLong));
     }
-    if !run {
-        return Verdict::Fine;
+    if run {
+        return Look::Loops(kept, added);
     }
-    if loops::loops_ok(front, added) {
-        return Verdict::Fine;
-    }
-    Verdict::Refused(Refusal::Loops)
-}
-
-// R on stored text.
-fn begin(stored: &[u8]) -> Verdict
-    ensures { λ r. ⌜ r ≡ verdictOf (Order.Change Change.Begin) (now (stored .entry)) [] ⌝ }
-{
-    if loops::loops_ok(stored, &stored[..0]) {
-        return Verdict::Fine;
-    }
-    Verdict::Refused(Refusal::Loops)
+    Look::Says(Verdict::Fine)
 }
 
 impl Change {
     // Loops are looked at when a stored text begins.
-    fn verdict(self, stored: &[u8]) -> Verdict
-        ensures { λ r. ⌜ r ≡ verdictOf (Order.Change self) (now (stored .entry)) [] ⌝ }
+    fn look(self, stored: usize) -> Look
+        ensures { λ r. ⌜ r ≡ changeLook self stored ⌝ }
     {
         match self {
-            Change::Begin => begin(stored),
-            Change::Resume => Verdict::Fine,
-            Change::EndDelay => Verdict::Fine,
-            Change::Repeat => Verdict::Fine,
-            Change::Erase => Verdict::Fine,
-            Change::Halt => Verdict::Fine,
-            Change::Reset => Verdict::Fine,
+            Change::Begin => Look::Loops(stored, 0),
+            Change::Resume => Look::Says(Verdict::Fine),
+            Change::EndDelay => Look::Says(Verdict::Fine),
+            Change::Repeat => Look::Says(Verdict::Fine),
+            Change::Erase => Look::Says(Verdict::Fine),
+            Change::Halt => Look::Says(Verdict::Fine),
+            Change::Reset => Look::Says(Verdict::Fine),
         }
     }
 }
 
 impl Order {
+    fn look(self, stored: usize, added: usize) -> Look
+        ensures { λ r. ⌜ r ≡ lookOf self stored added ⌝ }
+    {
+        match self {
+            Order::Refuse(why) => Look::Says(Verdict::Refused(why)),
+            Order::Load(loading, run) => look_at(loading.kept(stored), added, run),
+            Order::Change(change) => change.look(stored),
+        }
+    }
+
     // Whether it is refused, and why.
     pub fn verdict(self, stored: &[u8], added: &[u8]) -> Verdict
         ensures { λ r. ⌜ r ≡ verdictOf self (now (stored .entry)) (now (added .entry)) ⌝ }
     {
-        match self {
-            Order::Refuse(why) => Verdict::Refused(why),
-            Order::Load(loading, run) => {
-                let kept = loading.kept(stored.len());
-                load(&stored[..kept], added, run)
+        match self.look(stored.len(), added.len()) {
+            Look::Says(verdict) => verdict,
+            Look::Loops(kept, n) => {
+                if loops::loops_ok(&stored[..kept], &added[..n]) {
+                    return Verdict::Fine;
+                }
+                Verdict::Refused(Refusal::Loops)
             }
-            Order::Change(change) => change.verdict(stored),
         }
     }
 }

@@ -4,7 +4,8 @@ use pipettor::Controller;
 use pipettor::address::Address;
 ghost use Rattle.pipettor.specs.Valid.{Valid};
 
-fn hear(start: Controller, bytes: &[u8]) -> Controller
+// The buffer is lent by `main`, which prints it: what nobody reads the compiler leaves out.
+fn hear(start: Controller, bytes: &[u8], buf: &mut [u8]) -> Controller
     requires { ⌜ Valid start ⌝ }
     ensures { λ r. ⌜ Valid r ⌝ }
 {
@@ -14,9 +15,8 @@ fn hear(start: Controller, bytes: &[u8]) -> Controller
         let mut i = 0;
         while i < bytes.len() {
             let b = bytes[i];
-            let mut buf = [0u8; 32];
-            c = c.byte(b, &mut buf).controller;
             i += 1;
+            c = c.byte(b, buf).controller;
         }
         rounds += 1;
     }
@@ -35,10 +35,13 @@ fn in_hand(line: Line) -> u64 {
 fn main() {
     let mut bytes = [0u8; 250];
     libc::read(0, &mut bytes);
-    let c = hear(Controller::fresh(Address::One), &bytes);
+    let mut buf = [b'-'; 32];
+    let c = hear(Controller::fresh(Address::One), &bytes, &mut buf);
     let line = c.line;
     let mut digits = [0u8; 20];
     let n = io::decimal(in_hand(line), &mut digits);
     libc::write(1, &digits[..n]);
+    libc::write(1, b"\n");
+    libc::write(1, &buf);
     libc::write(1, b"\n");
 }

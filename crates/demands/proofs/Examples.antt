@@ -113,6 +113,8 @@ examples =
     ∷ ("Wp2,3000BR" answers "@" ∷ 3 ticks-at pos 32767 reach 0 exact 3000000000 ∷ "?0" answers "@3000" ∷ 1 ticks-at negsuc 32766 reach 80 exact 3000000000 ∷ 1 ticks-at negsuc 32767 reach 160 exact 160000000 ∷ "Q" answers "e" ∷ "?67" answers "e0" ∷ [])
     -- the search begins in the tick after the one in which the move arrives; ?0 is then the plunger; "T cuts a search like any movement"
     ∷ ("Wp2,100BP100R" answers "@" ∷ 5 ticks-at pos 0 reach 100 exact 100000000 ∷ "?0" answers "@100" ∷ 3 ticks-at pos 0 reach 104 exact 100000000 ∷ "?0" answers "@104" ∷ "P1R" answers "O" ∷ "T" answers "`" ∷ "?1" answers "`104" ∷ "R" answers "@" ∷ 3 ticks 204 exact 204000000 ∷ [])
+    -- W-205 doesn't ask of B: with v above V it moves and searches, and the A behind it is refused
+    ∷ ("Wv200V100p2,10BA0R" answers "@" ∷ 5 ticks-at pos 0 reach 0 exact 10000000 ∷ 10 ticks-at pos 0 reach 10 exact 10000000 ∷ 1 ticks-at pos 16 reach 11 exact 11000000 ∷ "Q" answers "@" ∷ 1 ticks 11 exact 11000000 ∷ "Q" answers "c" ∷ [])
     ∷ []
 
 -- 01, "Errors a class makes, and so may a program"
