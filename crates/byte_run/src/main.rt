@@ -1,5 +1,8 @@
 // Standard input's first 250 bytes, 4000 times over: of the controller nothing but `byte` is called. For counting instructions and stack.
+use line::Framing;
 use line::Line;
+use line::dt::Dt;
+use line::oem::Oem;
 use pipettor::Controller;
 use pipettor::address::Address;
 ghost use Rattle.pipettor.specs.Valid.{Valid};
@@ -23,20 +26,46 @@ fn hear(start: Controller, bytes: &[u8], buf: &mut [u8]) -> Controller
     c
 }
 
+fn in_dt(dt: Dt) -> u64 {
+    match dt {
+        Dt::Outside => 0,
+        Dt::Started => 0,
+        Dt::Collecting(_, n) => n as u64,
+    }
+}
+
+fn in_oem(oem: Oem) -> u64 {
+    match oem {
+        Oem::Outside => 0,
+        Oem::Started => 0,
+        Oem::Addressed(_) => 0,
+        Oem::Collecting(_, n) => n as u64,
+        Oem::Ended(_, n) => n as u64,
+    }
+}
+
 // How many data bytes are in hand.
 fn in_hand(line: Line) -> u64 {
     match line {
-        Line::Outside => 0,
-        Line::Started => 0,
-        Line::Collecting(_, n) => n as u64,
+        Line::Dt(dt) => in_dt(dt),
+        Line::Oem(oem) => in_oem(oem),
     }
+}
+
+// DT where the input begins with `/`, so that no compiler knows which it is.
+fn framing_by(first: u8) -> Framing {
+    if first == b'/' {
+        return Framing::Dt;
+    }
+    Framing::Oem
 }
 
 fn main() {
     let mut bytes = [0u8; 250];
     libc::read(0, &mut bytes);
     let mut buf = [b'-'; 32];
-    let c = hear(Controller::fresh(Address::One), &bytes, &mut buf);
+    let framing = framing_by(bytes[0]);
+    let c = hear(Controller::fresh(framing, Address::One), &bytes, &mut buf);
     let line = c.line;
     let mut digits = [0u8; 20];
     let n = io::decimal(in_hand(line), &mut digits);

@@ -4,20 +4,17 @@ use mathlib.Core.Bool.{false}
 use mathlib.Core.List.{List, [], _∷_, _++_}
 use lib.IntN.{pos}
 use Rattle.motion.specs.Bodies.{sensing, nothingSensed}
-use Rattle.pipettor.specs.declared.address.Address.{Address}
-use Rattle.pipettor.specs.declared.address.Address.the-variants.{One}
 use Rattle.pipettor.specs.declared.Controller.{Controller}
 use Rattle.pipettor.specs.Valid.{Valid}
 use Rattle.pipettor.specs.Byte.{After}
-use Rattle.pipettor.specs.Controller.{madeOf}
-use Rattle.demands.specs.Calls.{lent, Call, byte, listen, tick, stop, advance, run, said, callOf, answerOf, afterOf, answersOf, after, answers}
+use Rattle.demands.specs.Calls.{Making, made, lent, Call, byte, listen, tick, stop, advance, run, said, callOf, answerOf, afterOf, answersOf, after, answers}
 use Rattle.demands.specs.Contracts.{Program, Made, makes, Meets, TakesAll, leftBy, answeredBy}
 use Rattle.demands.specs.Frames.{frameAfter}
 use Rattle.demands.specs.Demands.{Agrees, Agreement}
-use Rattle.demands.specs.Script.{Line, _answers_, _ticks_exact_, _run-uses_, _ticks-with_ask_, _ticks-at_reach_exact_, lastOf, definition, program, callsOf, seen, wrongIn, wrongOf, TakesScript, TakesScripts}
+use Rattle.demands.specs.Script.{Line, _answers_, _ticks_exact_, _run-uses_, _ticks-with_ask_, _ticks-at_reach_exact_, lastOf, bench, definition, program, callsOf, seen, wrongIn, wrongOf, TakesScript, TakesScripts}
 use Rattle.demands.proofs.Examples.{impostors, computed}
 use Rattle.demands.proofs.Frames.{a-controller-hears}
-use Rattle.demands.proofs.Exchanges.{an-agreeing-program-exchanges}
+use Rattle.demands.proofs.Exchanges.{the-framing-stays, an-agreeing-program-exchanges}
 use Rattle.demands.proofs.InHand.{an-agreeing-program-receives}
 use Rattle.demands.proofs.Sound.{every-controller-is-sound}
 
@@ -51,17 +48,18 @@ module _ (p : Program) (m : Meets p) where
       let (left, back, holds, again) = calls-agree cs (callOf c k .next) (subst (p .Holds) same (m .held c k h (t .0) v)) (t .1) (subst Valid same (call-again c k h (t .0) v)) in
       (rw same left, rw e (ap (_∷_ (answerOf c k)) back), holds, again)
 
-every-program-agrees : (p : Program) → Meets p → (a : Address) (calls : List Call) → TakesAll p calls → Agrees p a calls
+every-program-agrees : (p : Program) → Meets p → (a : Making) (calls : List Call) → TakesAll p calls → Agrees p a calls
 unfolding after answers
 every-program-agrees p m a calls takes =
-    let k = madeOf a .next in
-    let made = m .fresh a .is in
-    let (left, back, holds, again) = calls-agree p m calls k (subst (p .Holds) made (m .fresh-held a)) takes (subst Valid made (m .fresh a .again)) in
+    let k = made a .next in
+    let fresh = m .fresh a .is in
+    let (left, back, holds, again) = calls-agree p m calls k (subst (p .Holds) fresh (m .fresh-held a)) takes (subst Valid fresh (m .fresh a .again)) in
     record {
-      premise = rw (made, left) again;
-      controller = rw made left;
-      answered = rw made back;
-      ready = rw (made, left) (m .ready (afterOf calls k) holds);
+      premise = rw (fresh, left) again;
+      controller = rw fresh left;
+      answered = rw fresh back;
+      framing = rw (fresh, left) (m .framing (afterOf calls k) holds ∙ the-framing-stays a calls);
+      ready = rw (fresh, left) (m .ready (afterOf calls k) holds);
     }
 
 pub every-program-that-meets-the-contracts-agrees : Agreement
@@ -70,21 +68,22 @@ every-program-that-meets-the-contracts-agrees =
       every-program-gives-addresses = λ p m n. m .given n;
       every-program-agrees = every-program-agrees;
       frames = λ a calls buf long. a-controller-hears (after a calls) (every-controller-is-sound a calls .sized .frame) buf long;
-      every-program-exchanges-frames = λ p m a calls ds buf good long takes. an-agreeing-program-exchanges a calls ds buf good long p (every-program-agrees p m a (calls ++ frameAfter a calls ds buf) takes);
+      every-program-exchanges-frames =
+          λ p m form a calls ds buf heard good long takes. an-agreeing-program-exchanges form a calls ds buf heard good long p (every-program-agrees p m a (calls ++ frameAfter form a calls ds buf) takes);
       every-program-receives = λ p m a calls. an-agreeing-program-receives p a calls (every-program-agrees p m a);
     }
 
 -- scripts
 module _ (p : Program) (m : Meets p) where
   placed-alike : (calls : List Call) → TakesAll p calls → (let b = program p .left calls .device .core .body in b .plunger ∷ b .exact ∷ []) ≡ (let b = definition .left calls .device .core .body in b .plunger ∷ b .exact ∷ [])
-  placed-alike calls t = ap (λ (k : Controller). k .device .core .body .plunger ∷ k .device .core .body .exact ∷ []) (every-program-agrees p m One calls t .controller)
+  placed-alike calls t = ap (λ (k : Controller). k .device .core .body .plunger ∷ k .device .core .body .exact ∷ []) (every-program-agrees p m bench calls t .controller)
 
   seen-alike : (calls : List Call) (l : Line) → TakesAll p (calls ++ callsOf l) → seen (program p) calls l ≡ seen definition calls l
   unfolding seen
-  seen-alike calls (text answers reply) t = ap lastOf (every-program-agrees p m One (calls ++ callsOf (text answers reply)) t .answered)
+  seen-alike calls (text answers reply) t = ap lastOf (every-program-agrees p m bench (calls ++ callsOf (text answers reply)) t .answered)
   seen-alike calls (n ticks place exact millionths) t = placed-alike (calls ++ advance n nothingSensed ∷ []) t
-  seen-alike calls (n run-uses count) t = ap lastOf (every-program-agrees p m One (calls ++ run n nothingSensed ∷ []) t .answered)
-  seen-alike calls (n ticks-with tip ask asked) t = ap lastOf (every-program-agrees p m One (calls ++ advance n (sensing tip (pos 0)) ∷ []) t .answered)
+  seen-alike calls (n run-uses count) t = ap lastOf (every-program-agrees p m bench (calls ++ run n nothingSensed ∷ []) t .answered)
+  seen-alike calls (n ticks-with tip ask asked) t = ap lastOf (every-program-agrees p m bench (calls ++ advance n (sensing tip (pos 0)) ∷ []) t .answered)
   seen-alike calls (n ticks-at reading reach there exact millionths) t = placed-alike (calls ++ advance n (sensing false reading) ∷ []) t
 
   wrong-alike : (calls : List Call) (ls : List Line) → TakesScript p calls ls → wrongIn (program p) calls ls ≡ wrongIn definition calls ls

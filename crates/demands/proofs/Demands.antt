@@ -18,6 +18,7 @@ use Rattle.command.specs.declared.refusal.Verdict.{Verdict}
 use Rattle.command.specs.declared.refusal.Verdict.the-variants.{Fine, Refused}
 use Rattle.command.specs.declared.Command.the-variants as C
 use Rattle.command.specs.Numbers.{refusalNumber, verdictNumber}
+use Rattle.line.specs.declared.Framing.{Framing}
 use Rattle.line.specs.Answer.{statusOf, answerOf}
 use Rattle.line.proofs.Answers.{answer-fits}
 use Rattle.motion.specs.declared.Sense.{Sense}
@@ -55,7 +56,7 @@ use Rattle.frames.proofs.Columns.{the-stop-leaves-the-column}
 use Rattle.frames.proofs.Tips.{no-byte-changes-the-tip, a-tick-brings-the-tip-sensed, the-stop-leaves-the-tip}
 use Rattle.frames.proofs.Reports.{q31-tells-the-tip}
 use Rattle.frames.proofs.Ticks.{a-tick-leaves-the-column-unless-the-run-fails, an-error-in-a-run-has-no-column}
-use Rattle.demands.specs.Calls.{Call, after}
+use Rattle.demands.specs.Calls.{Making, Call, after}
 use Rattle.demands.specs.Values.{Handed, number, S, saidIs, givenIs, usedIs}
 use Rattle.demands.specs.Demands.{Counted, AsksWithin, Takes, CauseIn, Written, Answers, Makes, TotalityAndRefusals, Position, Moves, FeelsFor, taking, moving-to-p2, searching, MissesIn}
 use Rattle.demands.proofs.Examples.{computed}
@@ -68,12 +69,12 @@ behind-over : (xs buf : List ℕ) → drop (length xs) (over xs 0 buf) ≡ drop 
 unfolding over
 behind-over xs buf = let z : 0 + length xs ≡ length xs = omega arith in rw z (drop-at xs (drop (length xs) buf) (length xs) refl)
 
-written-by : (o : Outcome) (ready : Bool) (buf : List ℕ) → 32 ≤ length buf → Written (saidOf o ready) buf (writtenOf o ready buf)
+written-by : (f : Framing) (o : Outcome) (ready : Bool) (buf : List ℕ) → 32 ≤ length buf → Written (saidOf f o ready) buf (writtenOf f o ready buf)
 unfolding saidOf writtenOf
-written-by Mute ready buf long = refl
-written-by (Tell report code) ready buf long =
-    let answer = answerOf (statusOf ready code) report in
-    let short = answer-fits (statusOf ready code) report in
+written-by f Mute ready buf long = refl
+written-by f (Tell report code) ready buf long =
+    let answer = answerOf f (statusOf ready code) report in
+    let short = answer-fits f (statusOf ready code) report in
     (short, length-over answer 0 buf (omega arith), behind-over answer buf)
 
 a-byte-writes : (k : Controller) (b : ℕ) (buf : List ℕ) → (let r = byteOf k b buf .next in Written (r .reply .said) buf (r .buffer))
@@ -81,7 +82,7 @@ unfolding byteOf heardOf dealtOf
 a-byte-writes k b buf =
     by (λ (t : Turn After). Written (t .next .reply .said) buf (t .next .buffer)) (ltb (length buf) 32)
     (λ h. refl)
-    (λ h. written-by _ _ buf (ltb-false (length buf) 32 h))
+    (λ h. written-by _ _ _ buf (ltb-false (length buf) 32 h))
 
 module _ (k : Controller) (n : ℕ) (sense : Sense) where
   a-run-is-counted : n ≤ 60000 → Counted n sense k (usedOf n (around (k .device .text) sense) (fine (k .device .core)))
@@ -213,7 +214,7 @@ asks-within k n s =
       always = λ a. e .always (record { tick = a .tick; before = a .before; asks = a .asks });
     }
 
-every-controller-answers : (a : Address) (calls : List Call) → Answers (after a calls)
+every-controller-answers : (a : Making) (calls : List Call) → Answers (after a calls)
 unfolding runOf ranOf tickedOf tickOf stoppedOf haltedOf advancedOf advanceOf
 every-controller-answers a calls =
     let k = after a calls in
@@ -223,7 +224,7 @@ every-controller-answers a calls =
       a-short-buffer-is-S1 = λ b buf. on-paper saidIs _ S1 1 (only-s1 _) refl (a-short-buffer-is-s1 k b buf);
       S1-changes-nothing = s1-changes-nothing k;
       a-byte-writes-its-answer-only = a-byte-writes k;
-      a-frame-is-treated-by-the-table = λ ds buf good long. a-frame-is-treated-by-the-table k (sound .sized .frame) buf long ds good;
+      a-frame-is-treated-by-the-table = λ form ds buf heard good long. a-frame-is-treated-by-the-table k (sound .sized .frame) buf long form ds heard good;
       a-long-run-is-S3 = λ n s. on-paper usedIs _ S3 3 (only-s3 _) refl (more-than-60000-ticks-are-s3 n s k);
       S3-changes-nothing = λ n s h. rw (lt-ltb 60000 n h);
       a-run-counts-its-ticks = λ n s h. (usedOf n (around (k .device .text) s) (fine (k .device .core)), a-run-is-counted k n s h);

@@ -1,4 +1,4 @@
--- Computed by the checker: 01's checked examples, those with ● and some more, the errors that a class makes, what no impostor plays, and calls that move the plunger. Every script is played from making, byte by byte and tick by tick.
+-- Computed by the checker: 01's checked examples, those with ● and some more, the errors that a class makes, what no impostor plays, calls that move the plunger, and OEM frames. Every script is played from making, byte by byte and tick by tick.
 use mathlib.Core.Path.{_≡_, refl}
 use mathlib.Core.Bool.{true, false}
 use mathlib.Core.List.{List, [], _∷_, _++_}
@@ -16,6 +16,9 @@ use Rattle.text.specs.Data as TextData
 use Rattle.text.specs.Loops as TextLoops
 use Rattle.text.specs.Text as Text
 use Rattle.line.specs.Answer as LineAnswer
+use Rattle.line.specs.Bytes as LineBytes
+use Rattle.line.specs.Dt as LineDt
+use Rattle.line.specs.Oem as LineOem
 use Rattle.line.specs.Wire as LineWire
 use lib.IntN.{pos, negsuc}
 use Rattle.motion.specs.Bodies.{plungerOf, nothingSensed}
@@ -32,11 +35,11 @@ use Rattle.pipettor.specs.Byte as PipettorByte
 use Rattle.pipettor.specs.Controller as PipettorController
 use Rattle.reports.specs.Reports as Reports
 use Rattle.machine.specs.History as History
-use Rattle.pipettor.specs.declared.address.Address.the-variants.{One}
 use Rattle.demands.specs.Calls as Calls
 use Rattle.demands.specs.Calls.{Call, advance, after}
 use Rattle.demands.specs.Demands.{Moves}
-use Rattle.demands.specs.Script.{Line, _answers_, _ticks_exact_, _run-uses_, _ticks-with_ask_, _ticks-at_reach_exact_, definition, callsOf, seen, wrongIn, wrongOf}
+use Rattle.demands.specs.Oem.{OemExamples}
+use Rattle.demands.specs.Script.{Line, _answers_, _ticks_exact_, _run-uses_, _ticks-with_ask_, _ticks-at_reach_exact_, bench, definition, callsOf, seen, wrongIn, wrongOf}
 
 abbrev pub examples : List (List Line)
 examples =
@@ -154,13 +157,29 @@ pub record Computed : Type 0 where
   pub no-mistake-is-made : wrongOf definition mistakes ≡ []
   pub what-no-impostor-plays : wrongOf definition impostors ≡ []
   pub the-plunger-moves : Moves
+  pub OEM : OemExamples
 
 -- opened: every definition on the way of a byte or a tick, so that rows can be added freely
 pub computed : Computed
-unfolding BasicsBytes.digit BasicsBytes.every BasicsBytes.valueOf BasicsLay.over BasicsLay.fits BasicsLay.laidIn DecimalDigits.lastDigits DecimalDigits.trim DecimalDigits.digitsOf DecimalDigits.fixedOf SettingsLimits.within SettingsUnits.nearest SettingsUnits.tenthsOf SettingsUnits.flowOf SettingsUnits.ticksOf SettingsUnits.rateOf SettingsUnits.millionthsOf SettingsUnits.goalOf SettingsUnits.nanolitresOf SettingsUnits.goneOf OperandNumber.digits OperandNumber.decimalsOf OperandNumber.followedOf OperandNumber.numberOf OperandNumber.behindComma OperandNumber.pairOf OperandText.run OperandText.rest Command.placed Command.foundIn Command.commandAt CommandTable.letterOf CommandTable.allowed CommandTable.takenOf CommandTable.wholeOf CommandTable.nanolitresOf CommandTable.speedOf CommandTable.inTenths CommandTable.flowOf CommandTable.made CommandTable.both CommandTable.inUnit CommandTable.volumeOf CommandTable.pacedOf CommandTable.slopesOf CommandTable.compensationOf CommandTable.rowAt CommandTable.rowOf CommandTable.detailOf CommandTable.setBy CommandTable.aspectOf CommandTable.commandOf TextData.spaceless TextData.askedOf TextData.body TextData.runs TextData.stringOf TextData.controlOf TextData.dataOf TextLoops.levelOf TextLoops.levels TextLoops.loopsOk Text.readFrom Text.readOf Text.checkOf LineAnswer.statusOf LineAnswer.reportOf LineAnswer.answerOf LineWire.printable LineWire.endOf LineWire.takeOf LineWire.hearOf LineWire.keepOf plungerOf Level.pressureOf Level.apart Level.leftOf Level.limitOf Level.goneIn Level.plungerIn Level.far Level.countWith Level.countedAs Level.findingOf Level.soughtOf Detect.approachOf Detect.zeroedOf Detect.noWayDown Detect.detectOf Detect.approachedOf Detect.foundAs Detect.searchedOf Motion.homeOf Motion.within Motion.targetOf Motion.setOut Motion.aimed Motion.moveOf Motion.delayOf Motion.ejectOf Motion.waitedOf Motion.ejectedOf Motion.effectOf Motion.carried Motion.onwardOf Motion.cutOf Motion.resetOf Motion.freshBody BufferOrder.cellOf BufferOrder.loopsBy BufferOrder.sized BufferOrder.verdictOf BufferCourse.halted MachineAct.haltOf MachineAct.stopOf MachineAct.changedOf MachineAct.doneOf BufferOrder.laidBy BufferOrder.storedBy MachineAct.actedOf MachineAct.actOf BufferCourse.passOf BufferCourse.reached BufferCourse.openedOf BufferCourse.closedBy BufferCourse.closedOf MachineDevice.freshOf MachineDevice.tickOf MachineDevice.advanceOf MachineRun.ticksOf MachineStep.appliedOf MachineStep.takenOf MachineStep.carriedOn MachineStep.runningOf MachineStep.activeOf MachineStep.stepOf MachineStep.nextOf PipettorByte.fetchedOf PipettorByte.squeezedIn PipettorByte.gotOf PipettorByte.squeezedOf PipettorByte.taskOf PipettorByte.performedOf PipettorByte.outcomeOf PipettorByte.saidOf PipettorByte.writtenOf PipettorByte.dealtOf PipettorByte.heardOf PipettorByte.byteOf PipettorController.madeOf PipettorController.advancedOf Reports.goalIn Reports.settingOf Reports.aspectIn Reports.valueOf Reports.queryOf Reports.tellOf Calls.callOf Calls.answerOf Calls.afterOf Calls.answersOf Calls.answers MachineDevice.ranOf MachineRun.usedOf PipettorController.runOf seen wrongIn wrongOf Calls.ticksEvents Calls.eventsOf Calls.after Calls.history History.callOf History.eventsOf
+unfolding BasicsBytes.digit BasicsBytes.every BasicsBytes.valueOf BasicsLay.over BasicsLay.fits BasicsLay.laidIn DecimalDigits.lastDigits DecimalDigits.trim DecimalDigits.digitsOf DecimalDigits.fixedOf SettingsLimits.within SettingsUnits.nearest SettingsUnits.tenthsOf SettingsUnits.flowOf SettingsUnits.ticksOf SettingsUnits.rateOf SettingsUnits.millionthsOf SettingsUnits.goalOf SettingsUnits.nanolitresOf SettingsUnits.goneOf OperandNumber.digits OperandNumber.decimalsOf OperandNumber.followedOf OperandNumber.numberOf OperandNumber.behindComma OperandNumber.pairOf OperandText.run OperandText.rest Command.placed Command.foundIn Command.commandAt CommandTable.letterOf CommandTable.allowed CommandTable.takenOf CommandTable.wholeOf CommandTable.nanolitresOf CommandTable.speedOf CommandTable.inTenths CommandTable.flowOf CommandTable.made CommandTable.both CommandTable.inUnit CommandTable.volumeOf CommandTable.pacedOf CommandTable.slopesOf CommandTable.compensationOf CommandTable.rowAt CommandTable.rowOf CommandTable.detailOf CommandTable.setBy CommandTable.aspectOf CommandTable.commandOf TextData.spaceless TextData.askedOf TextData.body TextData.runs TextData.stringOf TextData.controlOf TextData.dataOf TextLoops.levelOf TextLoops.levels TextLoops.loopsOk Text.readFrom Text.readOf Text.checkOf LineAnswer.statusOf LineAnswer.reportOf LineAnswer.startOf LineAnswer.tailOf LineAnswer.answerOf LineBytes.printable LineBytes.sumFrom LineOem.sequenced LineOem.headerOf LineOem.takeOf LineOem.collectOf LineOem.judgedOf LineOem.hearOf LineDt.endOf LineDt.takeOf LineDt.hearOf LineWire.hearOf LineWire.keepOf plungerOf Level.pressureOf Level.apart Level.leftOf Level.limitOf Level.goneIn Level.plungerIn Level.far Level.countWith Level.countedAs Level.findingOf Level.soughtOf Detect.approachOf Detect.zeroedOf Detect.noWayDown Detect.detectOf Detect.approachedOf Detect.foundAs Detect.searchedOf Motion.homeOf Motion.within Motion.targetOf Motion.setOut Motion.aimed Motion.moveOf Motion.delayOf Motion.ejectOf Motion.waitedOf Motion.ejectedOf Motion.effectOf Motion.carried Motion.onwardOf Motion.cutOf Motion.resetOf Motion.freshBody BufferOrder.cellOf BufferOrder.loopsBy BufferOrder.sized BufferOrder.verdictOf BufferCourse.halted MachineAct.haltOf MachineAct.stopOf MachineAct.changedOf MachineAct.doneOf BufferOrder.laidBy BufferOrder.storedBy MachineAct.actedOf MachineAct.actOf BufferCourse.passOf BufferCourse.reached BufferCourse.openedOf BufferCourse.closedBy BufferCourse.closedOf MachineDevice.freshOf MachineDevice.tickOf MachineDevice.advanceOf MachineRun.ticksOf MachineStep.appliedOf MachineStep.takenOf MachineStep.carriedOn MachineStep.runningOf MachineStep.activeOf MachineStep.stepOf MachineStep.nextOf PipettorByte.fetchedOf PipettorByte.squeezedIn PipettorByte.gotOf PipettorByte.squeezedOf PipettorByte.taskOf PipettorByte.performedOf PipettorByte.outcomeOf PipettorByte.saidOf PipettorByte.writtenOf PipettorByte.dealtOf PipettorByte.heardOf PipettorByte.byteOf PipettorController.madeOf PipettorController.advancedOf Reports.goalIn Reports.settingOf Reports.aspectIn Reports.valueOf Reports.queryOf Reports.tellOf Calls.callOf Calls.answerOf Calls.afterOf Calls.answersOf Calls.answers MachineDevice.ranOf MachineRun.usedOf PipettorController.runOf seen wrongIn wrongOf Calls.ticksEvents Calls.eventsOf Calls.after Calls.history History.callOf History.eventsOf
 computed = record {
   the-examples-hold = refl;
   no-mistake-is-made = refl;
   what-no-impostor-plays = refl;
-  the-plunger-moves = record { calls = moved; plunger = leb-true 1 (after One moved .device .core .body .plunger) refl; events = refl };
+  the-plunger-moves = record { calls = moved; plunger = leb-true 1 (after bench moved .device .core .body .plunger) refl; events = refl };
+  OEM = record {
+    busy-is-71h = refl;
+    ready-is-51h = refl;
+    data-are-summed = refl;
+    a-sum-of-02h-is-a-sum = (refl, refl);
+    sequence-37h = refl;
+    sequence-38h-is-silent = refl;
+    sequence-2Fh-is-silent = refl;
+    another-address-is-silent = refl;
+    a-slash-is-data = refl;
+    a-CR-drops-the-frame = refl;
+    the-next-frame-is-lost = refl;
+    the-one-behind-it-is-read = refl;
+    its-own-02h-begins-a-frame = refl;
+  };
 }

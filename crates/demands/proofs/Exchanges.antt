@@ -1,23 +1,26 @@
--- Calls in two parts, the address that stays, and so what a program makes of a whole frame, call by call.
+-- Calls in two parts, the address and the framing that stay, and so what a program makes of a whole frame, call by call.
 use mathlib.Core.Path.{_≡_, refl, sym, ap, subst, _∙_}
-use mathlib.Core.Bool.{true}
 use mathlib.Core.List.{List, [], _∷_, _++_, append-assoc}
 use Prim.Native.Nat.{ℕ, _≤_}
 use lib.Dec.{ltb}
-use lib.ListN.{length}
-use Rattle.basics.specs.Bytes.{every}
+use lib.ListN.{length, replicate}
 use Rattle.basics.proofs.Choice.{by}
-use Rattle.line.specs.Wire.{dataByte, framed}
+use Rattle.line.specs.declared.Framing.{Framing}
+use Rattle.line.specs.declared.Framing.the-variants.{Dt, Oem}
+use Rattle.line.specs.Wire.{freshLine, framingOf, beforeFrame, Form, formed, front, framed, Sendable, Hears}
+use Rattle.line.proofs.Receiving.{hear-keeps-framing, feed-keeps-framing}
 use Rattle.motion.specs.Events.{Turn}
 use Rattle.pipettor.specs.declared.address.Address.{Address}
 use Rattle.pipettor.specs.declared.Controller.{Controller}
+use Rattle.pipettor.specs.declared.Said.the-variants.{Silent}
 use Rattle.pipettor.specs.Address.{letterOf}
 use Rattle.pipettor.specs.Byte.{After, heardOf, byteOf}
 use Rattle.pipettor.specs.Listening.{listenedOf}
-use Rattle.pipettor.specs.Controller.{madeOf, tickedOf, stoppedOf, advancedOf, runOf}
+use Rattle.pipettor.specs.Controller.{madeOf, tickedOf, stoppedOf, advancedOf, runOf, framingIs}
 use Rattle.frames.specs.Frame.{givenOf, exchangeOf, Exchanged}
+use Rattle.frames.proofs.Bytes.{receiver}
 use Rattle.frames.proofs.Frames.{a-whole-frame-is-an-exchange}
-use Rattle.demands.specs.Calls.{Call, byte, listen, tick, stop, advance, run, callOf, answerOf, afterOf, eventsOf, answersOf, after, history, answers}
+use Rattle.demands.specs.Calls.{Making, made, Call, byte, listen, tick, stop, advance, run, callOf, answerOf, afterOf, eventsOf, answersOf, after, history, answers}
 use Rattle.demands.specs.Contracts.{Program}
 use Rattle.demands.specs.Demands.{Agrees}
 use Rattle.demands.specs.Frames.{frameAfter, ExchangesFrame}
@@ -56,35 +59,69 @@ unfolding afterOf
 calls-keep-address [] k = refl
 calls-keep-address (c ∷ cs) k = calls-keep-address cs (callOf c k .next) ∙ call-keeps-address c k
 
-pub the-address-stays : (a : Address) (calls : List Call) → after a calls .address ≡ a
+pub the-address-stays : (a : Making) (calls : List Call) → after a calls .address ≡ a .address
 unfolding after madeOf
-the-address-stays a calls = calls-keep-address calls (madeOf a .next)
+the-address-stays a calls = calls-keep-address calls (made a .next)
 
-module _ (a : Address) (calls : List Call) (ds buf : List ℕ) (good : every dataByte ds ≡ true) (long : 32 ≤ length buf) where
+-- nor the framing
+call-keeps-framing : (c : Call) (k : Controller) → framingIs (callOf c k .next) ≡ framingIs k
+unfolding callOf byteOf heardOf listenedOf tickedOf stoppedOf advancedOf runOf
+call-keeps-framing (byte b l) k =
+    by (λ (t : Turn After). framingIs (t .next .reply .controller) ≡ framingIs k) (ltb (length (l .buffer)) 32) (λ h. refl) (λ h. hear-keeps-framing (k .line) b)
+call-keeps-framing (listen bytes) k = feed-keeps-framing (receiver k) (beforeFrame (k .line) bytes)
+call-keeps-framing (tick s) k = refl
+call-keeps-framing stop k = refl
+call-keeps-framing (advance n s) k = refl
+call-keeps-framing (run n s) k = refl
+
+calls-keep-framing : (cs : List Call) (k : Controller) → framingIs (afterOf cs k) ≡ framingIs k
+unfolding afterOf
+calls-keep-framing [] k = refl
+calls-keep-framing (c ∷ cs) k = calls-keep-framing cs (callOf c k .next) ∙ call-keeps-framing c k
+
+pub fresh-framing : (f : Framing) → framingOf (freshLine f) ≡ f
+fresh-framing Dt = refl
+fresh-framing Oem = refl
+
+pub the-framing-stays : (a : Making) (calls : List Call) → framingIs (after a calls) ≡ a .framing
+unfolding after madeOf
+the-framing-stays a calls = calls-keep-framing calls (made a .next) ∙ fresh-framing (a .framing)
+
+module _ (form : Form) (a : Making) (calls : List Call) (ds buf : List ℕ) (heard : Hears form (after a calls .line)) (good : Sendable form (letterOf (a .address)) ds) (long : 32 ≤ length buf) where
   abbrev before : Controller
   before = after a calls
 
   abbrev frame : List Call
-  frame = frameAfter a calls ds buf
+  frame = frameAfter form a calls ds buf
 
-  exchanged : Exchanged before ds (givenOf before (framed (letterOf a) ds) buf) (exchangeOf ds a (before .device) buf)
+  abbrev us : before .address ≡ a .address
+  us = the-address-stays a calls
+
+  same-framing : formed form ≡ a .framing
+  same-framing = sym (heard .framing) ∙ the-framing-stays a calls
+
+  abbrev ToAddress : Framing → Address → Type 0
+  ToAddress f x = Exchanged form before ds (givenOf before (framed form (letterOf x) ds) buf) (exchangeOf f ds x (before .device) buf)
+
+  exchanged : ToAddress (a .framing) (a .address)
   exchanged =
-      subst (λ (x : Address). Exchanged before ds (givenOf before (framed (letterOf x) ds) buf) (exchangeOf ds x (before .device) buf)) (the-address-stays a calls)
-      (a-whole-frame-is-an-exchange before ds buf (every-controller-is-sound a calls .sized .frame) good long)
+      subst (λ (f : Framing). ToAddress f (a .address)) same-framing
+      (subst (ToAddress (formed form)) us
+      (a-whole-frame-is-an-exchange form before ds buf heard (every-controller-is-sound a calls .sized .frame) (subst (λ (x : Address). Sendable form (letterOf x) ds) (sym us) good) long))
 
-  pub an-agreeing-program-exchanges : (p : Program) → Agrees p a (calls ++ frame) → ExchangesFrame p a calls ds buf
+  pub an-agreeing-program-exchanges : (p : Program) → Agrees p a (calls ++ frame) → ExchangesFrame form p a calls ds buf
   unfolding after answers history
   an-agreeing-program-exchanges p agrees =
-      let m = madeOf a in
-      let gives = to-give-bytes-is-to-call before (framed (letterOf a) ds) buf in
+      let m = made a in
+      let gives = to-give-bytes-is-to-call before (framed form (letterOf (a .address)) ds) buf in
       let left = ap (λ (k : Controller). k .device) (agrees .controller ∙ after-two calls frame (m .next) ∙ gives .controller) in
       record {
         device = left ∙ exchanged .device;
         events =
             ap (_++_ (m .events)) (events-two calls frame (m .next) ∙ ap (_++_ (eventsOf calls (m .next))) (gives .events ∙ exchanged .events)) ∙
-            sym (append-assoc (m .events) (eventsOf calls (m .next)) (exchangeOf ds a (before .device) buf .events));
+            sym (append-assoc (m .events) (eventsOf calls (m .next)) (exchangeOf (a .framing) ds (a .address) (before .device) buf .events));
         back = answersOf frame before;
         answered = agrees .answered ∙ answers-two calls frame (m .next);
-        said = gives .said ∙ exchanged .said;
+        said = gives .said ∙ exchanged .said ∙ ap (λ (x : Address). replicate (length (front form (letterOf x) ds)) Silent ++ (exchangeOf (a .framing) ds (a .address) (before .device) buf .next .said ∷ [])) us;
         buffer = gives .buffer ∙ exchanged .buffer;
       }

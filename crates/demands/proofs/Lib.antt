@@ -3,6 +3,8 @@ pub mod Sound
 pub mod Ticks
 pub mod Frames
 pub mod Exchanges
+pub mod Holding
+pub mod Endings
 pub mod InHand
 pub mod Demands
 pub mod Contracts
@@ -10,7 +12,6 @@ pub mod Examples
 pub mod Agreement
 pub mod Texts
 pub mod Volumes
-pub mod Tight
 pub mod Records
 pub mod Parts
 pub mod OneLine
@@ -18,3 +19,5 @@ pub mod Tips
 pub mod Beginnings
 pub mod Searches
 pub mod Noise
+pub mod Oem
+pub mod Tight

@@ -1,6 +1,6 @@
 -- Theorems: after any bytes a receiver reads whole frames as they were sent; and two controllers of one address and one device, whatever each has in hand, go on alike from a `/` that is heard.
 use mathlib.Core.Path.{_≡_, refl, sym, ap, subst, _∙_}
-use mathlib.Core.Bool.{Bool, true}
+use mathlib.Core.Bool.{Bool, true, false≢true}
 use mathlib.Core.List.{List, [], _∷_, _++_, map}
 use Prim.Native.Nat.{ℕ, _≤_}
 use native.Mathlib.Omega.{arith}
@@ -8,9 +8,15 @@ use borrow.Author.Tests.{eqb-true, eqb-false}
 use lib.Dec.{eqb}
 use lib.ListN.{length, length-replicate}
 use Rattle.basics.proofs.Choice.{by}
-use Rattle.line.specs.declared.Line.the-variants.{Started}
-use Rattle.line.specs.Wire.{slash, cr, hearOf, keepOf, Received, hears, feed, framesOf}
-use Rattle.line.proofs.Receiving.{less, feed-long, frames-append, whole-frame, after-noise}
+use Rattle.line.specs.declared.Framing.the-variants.{Dt}
+use Rattle.line.specs.declared.Line.{Line}
+use Rattle.line.specs.declared.Line.the-variants as L
+use Rattle.line.specs.declared.Deed.the-variants as W
+use Rattle.line.specs.Dt.{slash}
+use Rattle.line.specs.Oem.{stx}
+use Rattle.line.specs.Wire.{framingOf, hearOf, keepOf, Received, hears, feed, framesOf, beforeFrame, Form, dt, oem, Sendable, Hears}
+use Rattle.line.proofs.Receiving.{less, feed-long, feed-keeps-framing, frames-append, at}
+use Rattle.line.proofs.Framed.{dt-starts, oem-starts, never-both, whole-frame, one-frame, dt-hears}
 use Rattle.motion.specs.Events.{Turn, quiet}
 use Rattle.machine.specs.declared.Device.{Device}
 use Rattle.pipettor.specs.declared.address.Address.{Address}
@@ -18,43 +24,54 @@ use Rattle.pipettor.specs.declared.Controller.{Controller}
 use Rattle.pipettor.specs.declared.Said.the-variants.{Silent}
 use Rattle.pipettor.specs.Address.{letterOf}
 use Rattle.pipettor.specs.Byte.{After, after, reply, Exchange, byteOf}
-use Rattle.pipettor.specs.Listening.{beforeCr, at, listenedOf}
+use Rattle.pipettor.specs.Listening.{listenedOf}
 use Rattle.pipettor.specs.Controller.{tickedOf, stoppedOf, advancedOf, runOf}
+use Rattle.frames.specs.Frame.{exchangeOf}
 use Rattle.frames.proofs.Bytes.{receiver, hearing, byte-frame, byte-other}
 use Rattle.frames.proofs.Calls.{s1-changes-nothing}
 use Rattle.demands.specs.Calls as Calls
-use Rattle.demands.specs.Calls.{Lent, lent, Call, byte, listen, tick, stop, advance, run, said, callOf, answerOf, afterOf, eventsOf, answersOf}
-use Rattle.demands.specs.InHand.{Hand, none, begun, to, handsOf, broughtBy, byteSeen}
-use Rattle.demands.specs.Noise.{Sent, bytesOf, Undamaged, onTheLine, readOf, readsOf, asSent, freshReceiver, ReceiverAfterNoise, Alike, Byteless, Giving, none-left, a-byte, between, ControllerAfterNoise}
+use Rattle.demands.specs.Calls.{Lent, lent, Call, byte, listen, tick, stop, advance, run, said, taken, callOf, answerOf, afterOf, eventsOf, answersOf}
+use Rattle.demands.specs.InHand.{begun, started, Hand, in-dt, in-oem, handsOf, Ending, no-frame, frame, endedBy, ends, broughtBy, byteSeen}
+use Rattle.demands.specs.Noise.{Sent, bytesOf, Undamaged, onTheLine, readOf, readsOf, asSent, freshReceiver, ReceiverAfterNoise, cleared, inDt, Alike, Byteless, Giving, none-left, a-byte, between, ControllerAfterNoise}
 use Rattle.demands.proofs.Sound.{every-controller-is-sound}
-use Rattle.demands.proofs.Exchanges.{after-two, answers-two, events-two, call-keeps-address}
-use Rattle.demands.proofs.InHand.{Shows, In, called, ending, silent, every-controller-receives}
+use Rattle.demands.proofs.Exchanges.{after-two, answers-two, events-two, call-keeps-address, the-framing-stays, fresh-framing}
+use Rattle.demands.proofs.Holding.{lineOf, no-data, Shows, In, called}
+use Rattle.demands.proofs.InHand.{ending, silent, every-controller-receives}
 
 -- whole frames, one after the other
-read-as-sent : (r : Received) (fs : List Sent) → length (r .frame) ≡ 320 → Undamaged fs → readsOf r fs ≡ map asSent fs
-unfolding readOf readsOf
-read-as-sent r [] n u = refl
-read-as-sent r (f ∷ fs) n u =
-    let w = whole-frame (f .address) (f .bytes) (u .0) (u .1) r n in
-    rw (w .last, w .kept, read-as-sent (feed r (bytesOf f)) fs (feed-long r (bytesOf f) ∙ n) (u .2))
+pub one-as-sent : (form : Form) (r : Received) (f : Sent) → Hears form (r .line) → Sendable form (f .address) (f .bytes) → length (r .frame) ≡ 320 → readOf form r f ≡ asSent f
+unfolding readOf
+one-as-sent form r f h g n = let w = whole-frame form (f .address) (f .bytes) g r h n in rw (w .last, w .kept)
 
-completed-alone : (r : Received) (fs : List Sent) → Undamaged fs → framesOf (r .line) (onTheLine fs) ≡ map (λ (f : Sent). asSent f .completed) fs
+heard : (r : Received) → framingOf (r .line) ≡ Dt → Hears dt (r .line)
+unfolding feed
+heard r e = dt-hears r [] e
+
+read-as-sent : (r : Received) (fs : List Sent) → framingOf (r .line) ≡ Dt → length (r .frame) ≡ 320 → Undamaged fs → readsOf r fs ≡ map asSent fs
+unfolding readsOf
+read-as-sent r [] e n u = refl
+read-as-sent r (f ∷ fs) e n u =
+    let bytes = bytesOf dt f in
+    rw (one-as-sent dt r f (heard r e) (u .0) n, read-as-sent (feed r bytes) fs (feed-keeps-framing r bytes ∙ e) (feed-long r bytes ∙ n) (u .1))
+
+completed-alone : (r : Received) (fs : List Sent) → framingOf (r .line) ≡ Dt → Undamaged fs → framesOf (r .line) (onTheLine fs) ≡ map (λ (f : Sent). asSent f .completed) fs
 unfolding framesOf
-completed-alone r [] u = refl
-completed-alone r (f ∷ fs) u =
-    rw (frames-append r (bytesOf f) (onTheLine fs), after-noise (f .address) (f .bytes) (u .0) (u .1) r [], completed-alone (feed r (bytesOf f)) fs (u .2))
+completed-alone r [] e u = refl
+completed-alone r (f ∷ fs) e u =
+    let bytes = bytesOf dt f in
+    rw (frames-append r bytes (onTheLine fs), one-frame dt (f .address) (f .bytes) (u .0) r (heard r e), completed-alone (feed r bytes) fs (feed-keeps-framing r bytes ∙ e) (u .1))
 
-module _ (r : Received) (n : length (r .frame) ≡ 320) where
+module _ (r : Received) (e : framingOf (r .line) ≡ Dt) (n : length (r .frame) ≡ 320) where
   after-any : (noise : List ℕ) (fs : List Sent) → Undamaged fs → readsOf (feed r noise) fs ≡ map asSent fs
-  after-any noise fs u = read-as-sent (feed r noise) fs (feed-long r noise ∙ n) u
+  after-any noise fs u = read-as-sent (feed r noise) fs (feed-keeps-framing r noise ∙ e) (feed-long r noise ∙ n) u
 
   pub every-receiver-is-over-noise : ReceiverAfterNoise r
   every-receiver-is-over-noise =
       record {
         frames-are-read-as-they-were-sent = after-any;
-        as-by-a-fresh-receiver = λ noise fs u. after-any noise fs u ∙ sym (read-as-sent freshReceiver fs (length-replicate {A = ℕ} 320 0) u);
-        no-other-frame-is-completed = λ noise fs u. completed-alone (feed r noise) fs u;
-        damage-ends-with-the-frame = λ f damaged fs d u. after-any damaged fs u ∙ sym (after-any (bytesOf f) fs u);
+        as-by-a-fresh-receiver = λ noise fs u. after-any noise fs u ∙ sym (read-as-sent (freshReceiver Dt) fs refl (length-replicate {A = ℕ} 320 0) u);
+        no-other-frame-is-completed = λ noise fs u. completed-alone (feed r noise) fs (feed-keeps-framing r noise ∙ e) u;
+        damage-ends-with-the-frame = λ f damaged fs d u. after-any damaged fs u ∙ sym (after-any (bytesOf dt f) fs u);
       }
 
 -- calls that are alike, and then others
@@ -68,11 +85,11 @@ module _ (xs ys : List Call) (k l : Controller) (first : Alike k l xs) (later : 
       }
 
 -- one address, one device, and frames of 320 places; the rest may differ
-record Twins (k l : Controller) : Type 0 where
-  address : k .address ≡ l .address
-  device : k .device ≡ l .device
-  long : length (k .frame) ≡ 320
-  as-long : length (l .frame) ≡ 320
+pub record Twins (k l : Controller) : Type 0 where
+  pub address : k .address ≡ l .address
+  pub device : k .device ≡ l .device
+  pub long : length (k .frame) ≡ 320
+  pub as-long : length (l .frame) ≡ 320
 
 frame-stays : (c : Call) (k : Controller) → length (callOf c k .next .frame) ≡ length (k .frame)
 unfolding callOf listenedOf tickedOf stoppedOf advancedOf runOf
@@ -80,11 +97,16 @@ frame-stays (byte b l) k =
     less (length (l .buffer)) 32
     (λ h. ap (λ (t : Turn After). length (t .next .reply .controller .frame)) (s1-changes-nothing k b (l .buffer) h))
     (λ h. byte-frame k b (l .buffer) h)
-frame-stays (listen bytes) k = feed-long (receiver k) (beforeCr bytes)
+frame-stays (listen bytes) k = feed-long (receiver k) (beforeFrame (k .line) bytes)
 frame-stays (tick s) k = refl
 frame-stays stop k = refl
 frame-stays (advance n s) k = refl
 frame-stays (run n s) k = refl
+
+pub frames-stay : (cs : List Call) (k : Controller) → length (afterOf cs k .frame) ≡ length (k .frame)
+unfolding afterOf
+frames-stay [] k = refl
+frames-stay (c ∷ cs) k = frames-stay cs (callOf c k .next) ∙ frame-stays c k
 
 still-twins : (c : Call) (k l : Controller) → Twins k l → Alike k l (c ∷ []) → Twins (callOf c k .next) (callOf c l .next)
 unfolding afterOf
@@ -136,24 +158,26 @@ seen-alike k l b x e =
       events = ap (λ (t : Turn Exchange). t .events ++ []) e;
     }
 
--- a byte ends a frame to us, or none
-same-or-not : {G : Type 0} (x y : ℕ) → (x ≡ y → G) → ((x ≡ y → ⊥) → G) → G
-same-or-not {G} x y f g = by (λ (t : Bool). G) (eqb x y) {a = true} {b = true} (λ e. f (eqb-true x y e)) (λ e. g (eqb-false x y e))
-
-ends-or-not : {G : Type 0} (ours : ℕ) (h : Hand) (b : ℕ) → ((ds : List ℕ) → b ≡ cr → h ≡ to ours ds → G) → ((b ≡ cr → (ds : List ℕ) → h ≡ to ours ds → ⊥) → G) → G
-ends-or-not ours none b f g = g (λ e ds q. let z : _≡_ {A = ℕ} 0 1 = cc in omega arith)
-ends-or-not ours begun b f g = g (λ e ds q. let z : _≡_ {A = ℕ} 0 1 = cc in omega arith)
-ends-or-not ours (to a ds) b f g =
-    same-or-not b cr
-    (λ e. same-or-not a ours (λ p. f ds e (ap (λ (x : ℕ). to x ds) p)) (λ but. g (λ e x q. but cc)))
-    (λ but. g (λ e x q. but e))
+-- what a byte ends is a frame to us, or not
+ends-or-not : {G : Type 0} (ours : ℕ) (x : Ending) → ((ds : List ℕ) → x ≡ frame ours ds → G) → (((ds : List ℕ) → x ≡ frame ours ds → ⊥) → G) → G
+ends-or-not ours no-frame f g = g (λ ds q. false≢true (ap ends q))
+ends-or-not {G} ours (frame a ds) f g =
+    by (λ (t : Bool). G) (eqb a ours) {a = true} {b = true}
+    (λ e. f ds (ap (λ (y : ℕ). frame y ds) (eqb-true a ours e)))
+    (λ e. g (λ x q. eqb-false a ours e cc))
 
 -- two receivers with the same in hand
 module _ (h : Hand) (k : Controller) (r : Received) (here : In h k) (there : Shows h r) where
+  same-line : k .line ≡ r .line
+  same-line = here .line ∙ sym (there .line)
+
   long-alike : (b : ℕ) (buf : List ℕ) → 32 ≤ length buf → byteSeen k b buf ≡ byteSeen (hearing k r) b buf
   long-alike b buf long =
-      ends-or-not (letterOf (k .address)) h b
-      (λ ds e hand. rw e (ending h k here ds buf hand long ∙ sym (ending h (hearing k r) there ds buf hand long)))
+      ends-or-not (letterOf (k .address)) (endedBy h b)
+      (λ ds hand.
+      ending h k here b ds buf hand long
+      ∙ ap (λ (l : Line). exchangeOf (framingOf l) ds (k .address) (k .device) buf) same-line
+      ∙ sym (ending h (hearing k r) there b ds buf hand long))
       (λ but. silent h k here b buf but long ∙ sym (silent h (hearing k r) there b buf but long))
 
   byte-alike : (b : ℕ) (buf : List ℕ) → byteSeen k b buf ≡ byteSeen (hearing k r) b buf
@@ -162,50 +186,93 @@ module _ (h : Hand) (k : Controller) (r : Received) (here : In h k) (there : Sho
   call-alike : (c : Call) → Alike k (hearing k r) (c ∷ [])
   unfolding afterOf eventsOf answersOf callOf answerOf listenedOf
   call-alike (byte b x) = seen-alike k (hearing k r) b x (byte-alike b (x .buffer))
-  call-alike (listen bytes) = record { answers = refl; device = refl; events = refl }
+  call-alike (listen bytes) = record { answers = ap (λ (l : Line). taken (length (beforeFrame l bytes)) ∷ []) same-line; device = refl; events = refl }
   call-alike (tick s) = byteless (tick s) k r tt
   call-alike stop = byteless stop k r tt
   call-alike (advance n s) = byteless (advance n s) k r tt
   call-alike (run n s) = byteless (run n s) k r tt
 
-calls-alike : (cs : List Call) (h : Hand) (k l : Controller) → Twins k l → In h k → In h l → Alike k l cs
+pub calls-alike : (cs : List Call) (h : Hand) (k l : Controller) → Twins k l → In h k → In h l → Alike k l cs
 unfolding afterOf eventsOf answersOf
 calls-alike [] h k l t here there = record { answers = refl; device = t .device; events = refl }
 calls-alike (c ∷ cs) h k l t here there =
     and-then c cs k l t (call-alike h k (receiver l) here there c)
-    (λ still. calls-alike cs (handsOf h (broughtBy c)) _ _ still (called c h k (t .long) here) (called c h l (t .as-long) there))
+    (λ still. calls-alike cs (handsOf h (broughtBy h c)) _ _ still (called c h k (t .long) here) (called c h l (t .as-long) there))
 
--- a `/` that is heard, whatever is in hand
-slash-does : (k : Controller) (buf : List ℕ) → 32 ≤ length buf → byteOf k slash buf ≡ quiet (after (reply (hearing k (at Started (k .frame))) Silent) buf)
-unfolding hearOf keepOf hears
-slash-does k buf long = byte-other k slash buf long tt
+-- the byte that starts a frame, where it is heard as that: whatever was in hand, a frame has begun
+abbrev startedBy : Form → Hand
+startedBy dt = in-dt begun
+startedBy (oem s) = in-oem started
 
-slash-begins : (k : Controller) (x : Lent) → 32 ≤ length (x .buffer) → In begun (callOf (byte slash x) k .next)
+abbrev startByte : Form → ℕ
+startByte dt = slash
+startByte (oem s) = stx
+
+starts : (form : Form) (l : Line) → Hears form l → hearOf l (startByte form) ≡ record { line = lineOf (startedBy form); deed = W.Nothing }
+starts dt (L.Dt d) h = dt-starts d
+starts dt (L.Oem o) h = let z : _≡_ {A = ℕ} 0 1 = never-both (h .framing) in absurd (omega arith)
+starts (oem s) (L.Dt d) h = let z : _≡_ {A = ℕ} 0 1 = never-both (sym (h .framing)) in absurd (omega arith)
+starts (oem s) (L.Oem o) h = oem-starts o (h .no-sum)
+
+shows-started : (form : Form) (held : List ℕ) → Shows (startedBy form) (at (lineOf (startedBy form)) held)
+shows-started dt held = record { line = refl; kept = no-data held }
+shows-started (oem s) held = record { line = refl; kept = no-data held }
+
+start-does : (form : Form) (k : Controller) (buf : List ℕ) → Hears form (k .line) → 32 ≤ length buf → byteOf k (startByte form) buf ≡ quiet (after (reply (hearing k (at (lineOf (startedBy form)) (k .frame))) Silent) buf)
+unfolding keepOf hears
+start-does form k buf h long =
+    let e = starts form (k .line) h in
+    byte-other k (startByte form) buf long (rw e tt) ∙ rw e
+
+start-begins : (form : Form) (k : Controller) (x : Lent) → Hears form (k .line) → 32 ≤ length (x .buffer) → In (startedBy form) (callOf (byte (startByte form) x) k .next)
 unfolding callOf
-slash-begins k x long = subst (λ (t : Turn After). In begun (t .next .reply .controller)) (sym (slash-does k (x .buffer) long)) refl
+start-begins form k x h long =
+    subst (λ (t : Turn After). In (startedBy form) (t .next .reply .controller)) (sym (start-does form k (x .buffer) h long)) (shows-started form (k .frame))
 
-from-slash : (k l : Controller) → Twins k l → (x : Lent) → 32 ≤ length (x .buffer) → (cs : List Call) → Alike k l (byte slash x ∷ cs)
-from-slash k l t x long cs =
+pub from-the-start : (form : Form) (k l : Controller) → Hears form (k .line) → Hears form (l .line) → Twins k l → (x : Lent) → 32 ≤ length (x .buffer) → (cs : List Call) → Alike k l (byte (startByte form) x ∷ cs)
+from-the-start form k l hk hl t x long cs =
     let twin = hearing k (receiver l) in
-    and-then (byte slash x) cs k l t (seen-alike k twin slash x (rw (slash-does k (x .buffer) long, slash-does twin (x .buffer) long)))
-    (λ still. calls-alike cs begun _ _ still (slash-begins k x long) (slash-begins l x long))
+    and-then (byte (startByte form) x) cs k l t (seen-alike k twin (startByte form) x (rw (start-does form k (x .buffer) hk long, start-does form twin (x .buffer) hl long)))
+    (λ still. calls-alike cs (startedBy form) _ _ still (start-begins form k x hk long) (start-begins form l x hl long))
 
--- calls that give a `/` first, and then any bytes
-giving-alike : (bs rest : List ℕ) (cs more : List Call) (k l : Controller) → Giving bs cs → bs ≡ slash ∷ rest → Twins k l → Alike k l (cs ++ more)
-giving-alike bs rest cs more k l none-left e t = let z : _≡_ {A = ℕ} 0 1 = cc in absurd (omega arith)
-giving-alike bs rest cs more k l (a-byte b x bs′ cs′ long g) e t =
-    let is : b ≡ slash = cc in
-    rw is (from-slash k l t x long (cs′ ++ more))
-giving-alike bs rest cs more k l (between c bs′ cs′ no-byte g) e t =
-    and-then c (cs′ ++ more) k l t (byteless c k (receiver l) no-byte) (λ still. giving-alike bs′ rest cs′ more _ _ g e still)
+-- no call but a byte changes the receiver
+pub byteless-receiver : (c : Call) (k : Controller) → Byteless c → receiver (callOf c k .next) ≡ receiver k
+unfolding callOf tickedOf stoppedOf advancedOf runOf
+byteless-receiver (byte b l) k no-byte = absurd no-byte
+byteless-receiver (listen bytes) k no-byte = absurd no-byte
+byteless-receiver (tick s) k no-byte = refl
+byteless-receiver stop k no-byte = refl
+byteless-receiver (advance n s) k no-byte = refl
+byteless-receiver (run n s) k no-byte = refl
+
+-- calls that give the start of a frame first, and then any bytes
+pub giving-alike :
+    (form : Form) (bs rest : List ℕ) (cs more : List Call) (k l : Controller) → Giving bs cs → bs ≡ startByte form ∷ rest →
+    Hears form (k .line) → Hears form (l .line) → Twins k l → Alike k l (cs ++ more)
+giving-alike form bs rest cs more k l none-left e hk hl t = let z : _≡_ {A = ℕ} 0 1 = cc in absurd (omega arith)
+giving-alike form bs rest cs more k l (a-byte b x bs′ cs′ long g) e hk hl t =
+    let is : b ≡ startByte form = cc in
+    rw is (from-the-start form k l hk hl t x long (cs′ ++ more))
+giving-alike form bs rest cs more k l (between c bs′ cs′ no-byte g) e hk hl t =
+    and-then c (cs′ ++ more) k l t (byteless c k (receiver l) no-byte)
+    (λ still.
+    giving-alike form bs′ rest cs′ more _ _ g e
+    (subst (λ (r : Received). Hears form (r .line)) (sym (byteless-receiver c k no-byte)) hk) (subst (λ (r : Received). Hears form (r .line)) (sym (byteless-receiver c l no-byte)) hl) still)
+
+-- a controller, and the same with a fresh receiver
+pub clears : (k : Controller) → length (k .frame) ≡ 320 → Twins k (cleared k)
+clears k n = record { address = refl; device = refl; long = n; as-long = length-replicate {A = ℕ} 320 0 }
 
 pub every-controller-is-over-noise : ControllerAfterNoise
 every-controller-is-over-noise =
     record {
-      from-a-slash-on = λ k l long as-long address device. from-slash k l (record { address = address; device = device; long = long; as-long = as-long });
+      from-a-slash-on = λ k l dt-k dt-l long as-long address device.
+          from-the-start dt k l (heard (receiver k) dt-k) (heard (receiver l) dt-l) (record { address = address; device = device; long = long; as-long = as-long });
       whole-frames-after-any-calls =
           λ a calls f fs cs more u g.
-          giving-alike (onTheLine (f ∷ fs)) _ cs more (Calls.after a calls) _ g refl
-          (record { address = refl; device = refl; long = every-controller-is-sound a calls .sized .frame; as-long = length-replicate {A = ℕ} 320 0 });
-      noise-acts-as-the-frames-that-it-holds = every-controller-receives;
+          let k = Calls.after (inDt a) calls in
+          let e = the-framing-stays (inDt a) calls in
+          giving-alike dt (onTheLine (f ∷ fs)) _ cs more k (cleared k) g refl
+          (heard (receiver k) e) (heard (receiver (cleared k)) (fresh-framing (framingOf (k .line)) ∙ e)) (clears k (every-controller-is-sound (inDt a) calls .sized .frame));
+      noise-acts-as-the-frames-that-it-holds = λ a. every-controller-receives (inDt a);
     }

@@ -15,10 +15,13 @@ use Rattle.basics.proofs.Digits.{and-both, every-append, digit-range}
 use Rattle.basics.proofs.Over.{length-over}
 use Rattle.decimal.specs.Digits.{digitsOf, longOf, lastDigits, fixedOf}
 use Rattle.decimal.proofs.PlaceValue.{digits-are-digits, last-are-digits, trimmed-are-digits}
+use Rattle.line.specs.declared.Framing.{Framing}
+use Rattle.line.specs.declared.Framing.the-variants as F
 use Rattle.line.specs.declared.Report.{Report}
 use Rattle.line.specs.declared.Report.the-variants.{Nothing, Character, Whole, Tenths, Thousandths}
-use Rattle.line.specs.Answer.{lf, statusOf, reportOf, answerOf}
-use Rattle.desk.specs.Desk.{printedOf}
+use Rattle.line.specs.Wire.{framingOf}
+use Rattle.line.specs.Answer.{lf, statusOf, reportOf, startOf, tailOf, answerOf}
+use Rattle.desk.specs.Desk.{tailSize, printedOf}
 use Rattle.desk.specs.Hex.{digitFor, spaced, hexOf}
 use Rattle.text.specs.declared.Question.{Question}
 use Rattle.text.specs.declared.Question.the-variants as Q
@@ -50,8 +53,9 @@ use Rattle.pipettor.specs.declared.Said.{Said}
 use Rattle.pipettor.specs.declared.Said.the-variants.{Silent, Answer, S1}
 use Rattle.pipettor.specs.Address.{letterOf, addressOf}
 use Rattle.pipettor.specs.Byte.{toldCode, toldOf, outcomeOf, saidOf, writtenOf, After, dealtOf, heardOf, byteOf}
+use Rattle.pipettor.specs.Listening.{listenedOf}
 use Rattle.desk.specs.declared.Quantity.{Quantity}
-use Rattle.desk.specs.declared.Quantity.the-variants.{Ticks, Run, Lend, New, Tip, Press, Minus}
+use Rattle.desk.specs.declared.Quantity.the-variants.{Ticks, Run, Lend, New, Oem, Tip, Press, Minus}
 use Rattle.desk.specs.declared.Asked.{Asked}
 use Rattle.desk.specs.declared.Asked.the-variants as A
 use Rattle.desk.specs.Desk.{askedOf}
@@ -59,7 +63,7 @@ use Rattle.desk.specs.Hex.{bytesIn}
 use Rattle.line.proofs.Answers.{answer-fits}
 use Rattle.station.specs.declared.Station.{Station}
 use Rattle.station.specs.Serve as Serve
-use Rattle.station.specs.Serve.{Served, endedOf, goneOn, sentBy, sentOf, placedOf, usedUp, madeBy, sensedOf, numberedOf, silent, saidTo, rawByte, rawFrom, rawOf, didOf, servedOf}
+use Rattle.station.specs.Serve.{Served, endedOf, goneOn, sentBy, sentOf, framedBy, placedOf, usedUp, madeBy, sensedOf, numberedOf, silent, saidTo, rawByte, rawFrom, rawOf, didOf, servedOf}
 use Rattle.printing.specs.Print.{ended, shownOf, lastOf, placeOf, usedOf, barOf, addedOf, closeOf, noLf, OneLine}
 
 -- a byte of at least 11 is no LF
@@ -182,37 +186,45 @@ outcome-plain (G.Data (D.Wrong m)) a v tip c = tt
 outcome-plain (G.Data D.TooLong) a v tip c = tt
 
 -- what is shown of an answer: its status byte and its data
-heart : (status : ℕ) (report : Report) (buf : List ℕ) → 32 ≤ length buf → printedOf (length (answerOf status report)) (over (answerOf status report) 0 buf) ≡ status ∷ reportOf report
-unfolding printedOf over answerOf
-heart status report buf h =
-    let tail : List ℕ = 3 ∷ 13 ∷ 10 ∷ [] in
-    let rest = drop (0 + length (answerOf status report)) buf in
-    let sum = length-append (reportOf report) tail in
-    let size : length (answerOf status report) ≡ length (reportOf report) + 6 = omega arith in
-    let fits = answer-fits status report in
-    let all : length (over (answerOf status report) 0 buf) ≡ length buf = length-over (answerOf status report) 0 buf (omega arith) in
-    rw (le-leb (length (answerOf status report)) (length (over (answerOf status report) 0 buf)) (omega arith), append-assoc (reportOf report) tail rest)
-    (take-at (status ∷ reportOf report) (tail ++ rest) (length (answerOf status report) - 5) (omega arith))
+tail-size : (f : Framing) (before : List ℕ) → length (tailOf f before) ≡ tailSize f
+unfolding tailOf tailSize
+tail-size F.Dt before = refl
+tail-size F.Oem before = refl
+
+module _ (f : Framing) where
+  heart : (status : ℕ) (report : Report) (buf : List ℕ) → 32 ≤ length buf → printedOf f (length (answerOf f status report)) (over (answerOf f status report) 0 buf) ≡ status ∷ reportOf report
+  unfolding printedOf over answerOf
+  heart status report buf h =
+      let answer = answerOf f status report in
+      let tail : List ℕ = tailOf f (startOf f ∷ 48 ∷ status ∷ reportOf report) in
+      let rest = drop (0 + length answer) buf in
+      let sum = length-append (reportOf report) tail in
+      let size : length answer ≡ length (reportOf report) + tailSize f + 3 = omega (arith, sum, tail-size f (startOf f ∷ 48 ∷ status ∷ reportOf report)) in
+      let fits = answer-fits f status report in
+      let all : length (over answer 0 buf) ≡ length buf = length-over answer 0 buf (omega arith) in
+      rw (le-leb (length answer) (length (over answer 0 buf)) (omega arith), append-assoc (reportOf report) tail rest)
+      (take-at (status ∷ reportOf report) (tail ++ rest) (length answer - (2 + tailSize f)) (omega arith))
 
 one-line : (body : List ℕ) → every noLf body ≡ true → OneLine (ended body)
 one-line body h = record { body = body; is = refl; inside = h }
 
-answer-shown : (ready : Bool) (code : ℕ) (report : Report) (buf : List ℕ) → Plain report → 32 ≤ length buf → OneLine (shownOf (Answer (length (answerOf (statusOf ready code) report))) (over (answerOf (statusOf ready code) report) 0 buf))
-unfolding shownOf every statusOf
-answer-shown ready code report buf p h =
-    rw (heart (statusOf ready code) report buf h) (one-line (statusOf ready code ∷ reportOf report) (rw (plain (statusOf ready code) (omega arith)) (report-plain report p)))
+module _ (f : Framing) where
+  answer-shown : (ready : Bool) (code : ℕ) (report : Report) (buf : List ℕ) → Plain report → 32 ≤ length buf → (let answer = answerOf f (statusOf ready code) report in OneLine (shownOf f (Answer (length answer)) (over answer 0 buf)))
+  unfolding shownOf every statusOf
+  answer-shown ready code report buf p h =
+      rw (heart f (statusOf ready code) report buf h) (one-line (statusOf ready code ∷ reportOf report) (rw (plain (statusOf ready code) (omega arith)) (report-plain report p)))
 
-outcome-shown : (o : Outcome) (ready : Bool) (buf : List ℕ) → PlainOutcome o → 32 ≤ length buf → OneLine (shownOf (saidOf o ready) (writtenOf o ready buf))
-unfolding shownOf saidOf writtenOf every
-outcome-shown Mute ready buf p h = one-line (chars "-") refl
-outcome-shown (Tell report code) ready buf p h = answer-shown ready code report buf p h
+  outcome-shown : (o : Outcome) (ready : Bool) (buf : List ℕ) → PlainOutcome o → 32 ≤ length buf → OneLine (shownOf f (saidOf f o ready) (writtenOf f o ready buf))
+  unfolding shownOf saidOf writtenOf every
+  outcome-shown Mute ready buf p h = one-line (chars "-") refl
+  outcome-shown (Tell report code) ready buf p h = answer-shown ready code report buf p h
 
-byte-shown : (k : Controller) (b : ℕ) (buf : List ℕ) → (let a = byteOf k b buf .next in OneLine (shownOf (a .reply .said) (a .buffer)))
+byte-shown : (k : Controller) (b : ℕ) (buf : List ℕ) → (let a = byteOf k b buf .next in OneLine (shownOf (framingOf (k .line)) (a .reply .said) (a .buffer)))
 unfolding byteOf heardOf dealtOf shownOf every
 byte-shown k b buf =
-    by (λ (t : Turn After). OneLine (shownOf (t .next .reply .said) (t .next .buffer))) (ltb (length buf) 32)
+    by (λ (t : Turn After). OneLine (shownOf (framingOf (k .line)) (t .next .reply .said) (t .next .buffer))) (ltb (length buf) 32)
     (λ e. one-line (chars "S1") refl)
-    (λ e. outcome-shown _ _ buf (outcome-plain _ (k .address) _ (k .device .tip) (k .device .core)) (ltb-false (length buf) 32 e))
+    (λ e. outcome-shown (framingOf (k .line)) _ _ buf (outcome-plain _ (k .address) _ (k .device .tip) (k .device .core)) (ltb-false (length buf) 32 e))
 
 -- bytes in hex
 hex-plain : (n : ℕ) → 10 < digitFor n
@@ -279,30 +291,41 @@ used (U.Ticks n) p x asked = behind (digitsOf n ++ chars " ") (placeOf p x asked
 used U.S3 p x asked = one-line (chars "S3") refl
 
 -- each line
-sent : (said : Said) (text : List ℕ) (s : Station) → OneLine (sentBy said text s .text)
-unfolding sentBy goneOn endedOf Serve.heardOf Serve.toldOf every
-sent Silent text s = byte-shown _ _ _
-sent (Answer n) text s = byte-shown _ _ _
-sent S1 text s = one-line (chars "S1") refl
+gone-on : (rest : List ℕ) (last : ℕ) (s : Station) → OneLine (goneOn rest last s .text)
+unfolding goneOn endedOf Serve.heardOf Serve.toldOf
+gone-on rest last s = byte-shown (listenedOf (s .controller) rest .controller) last (Serve.blank (s .lend))
 
-made : (g : Given) (s : Station) → OneLine (madeBy g s .text)
+sent : (said : Said) (rest : List ℕ) (last : ℕ) (s : Station) → OneLine (sentBy said rest last s .text)
+unfolding sentBy every
+sent Silent rest last s = gone-on rest last s
+sent (Answer n) rest last s = gone-on rest last s
+sent S1 rest last s = one-line (chars "S1") refl
+
+framed : (f : Framing) (text : List ℕ) (s : Station) → OneLine (framedBy f text s .text)
+unfolding framedBy sentOf every
+framed F.Dt text s = sent _ text _ _
+framed F.Oem [] s = one-line (chars "?") refl
+framed F.Oem (a ∷ ds) s = sent _ _ _ _
+
+made : (f : Framing) (g : Given) (s : Station) → OneLine (madeBy f g s .text)
 unfolding madeBy every
-made (Is a) s = one-line (chars "ok") refl
-made S2 s = one-line (chars "S2") refl
+made f (Is a) s = one-line (chars "ok") refl
+made f S2 s = one-line (chars "S2") refl
 
 numbered : (q : Quantity) (n : ℕ) (s : Station) → OneLine (numberedOf q n s .text)
 unfolding numberedOf placedOf usedUp sensedOf every
 numbered Ticks n s = placed _ _ _
 numbered Run n s = used _ _ _ _
 numbered Lend n s = one-line (chars "ok") refl
-numbered New n s = made (addressOf n) s
+numbered New n s = made F.Dt (addressOf n) s
+numbered Oem n s = made F.Oem (addressOf n) s
 numbered Tip n s = one-line (chars "ok") refl
 numbered Press n s = one-line (chars "ok") refl
 numbered Minus n s = one-line (chars "ok") refl
 
 did : (a : Asked) (line : List ℕ) (s : Station) → OneLine (didOf a line s .text)
-unfolding didOf sentOf placedOf rawOf every
-did A.Send line s = sent _ (drop 2 line) _
+unfolding didOf placedOf rawOf every
+did A.Send line s = framed _ (drop 2 line) s
 did (A.Number q n) line s = numbered q n s
 did A.Stop line s = placed _ _ _
 did A.Raw line s = let t = rawFrom (bytesIn (drop 2 line)) (Serve.served s []) in closes (t .text) (silent (t .text)) (raw-plain (bytesIn (drop 2 line)) (Serve.served s []) refl)

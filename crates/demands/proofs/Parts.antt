@@ -14,6 +14,7 @@ use Rattle.text.specs.declared.Control.{Control}
 use Rattle.text.specs.declared.Control.the-variants.{Run, Stop}
 use Rattle.text.specs.declared.Data.the-variants as D
 use Rattle.text.specs.Data.{spaceless, body, receivedOf}
+use Rattle.line.specs.declared.Framing.{Framing}
 use Rattle.motion.specs.Events.{Turn}
 use Rattle.buffer.specs.declared.course.State.the-variants.{Stored}
 use Rattle.buffer.specs.declared.course.Course.{Course}
@@ -33,7 +34,7 @@ use Rattle.machine.proofs.Runs.{ready-ticks}
 use Rattle.pipettor.specs.declared.address.Address.{Address}
 use Rattle.pipettor.specs.declared.Controller.{Controller}
 use Rattle.pipettor.specs.Byte.{After, Exchange, actionOf, taskOf, performedOf, dealtOf, byteOf}
-use Rattle.pipettor.specs.Controller.{madeOf, tickedOf, stoppedOf, advancedOf, runOf}
+use Rattle.pipettor.specs.Controller.{tickedOf, stoppedOf, advancedOf, runOf}
 use Rattle.pipettor.specs.Listening.{listenedOf}
 use Rattle.frames.specs.Frame.{addedOf, exchangeOf}
 use Rattle.frames.specs.Tips.{withTip}
@@ -41,7 +42,7 @@ use Rattle.frames.specs.Refused.{numberFor, refusalOf, isReport, columnAfter}
 use Rattle.frames.specs.Limits.{wholeOf}
 use Rattle.frames.proofs.Calls.{s1-changes-nothing}
 use Rattle.frames.proofs.Refusals.{a-refused-frame-leaves-the-error-only, reports-leave-everything}
-use Rattle.demands.specs.Calls.{Lent, Call, byte, listen, tick, stop, advance, run, callOf, afterOf, after}
+use Rattle.demands.specs.Calls.{Making, made, Lent, Call, byte, listen, tick, stop, advance, run, callOf, afterOf, after}
 use Rattle.demands.specs.Parts as Parts
 use Rattle.demands.specs.Parts.{Ends, Part, Loaded, first, part, between, report, refused, Keeps, Runs, InParts}
 use Rattle.demands.proofs.Exchanges.{after-two}
@@ -65,21 +66,21 @@ module _ (k : Controller) (stored : k .device .core .course .state ≡ Stored) w
       by (λ (r : Machine.Ran). SameBut k (r .turned .device)) (ltb 60000 n) (λ h. (k .device .tip, refl))
       (λ h. waits (usedOf n (around (k .device .text) s) (fine (k .device .core))) s)
 
-module _ (a : Address) (calls : List Call) where
+module _ (a : Making) (calls : List Call) where
   abbrev here : Controller
   here = after a calls
 
   one-more : (c : Call) → after a (calls ++ (c ∷ [])) ≡ callOf c here .next
   unfolding after afterOf
-  one-more c = after-two calls (c ∷ []) (madeOf a .next)
+  one-more c = after-two calls (c ∷ []) (made a .next)
 
   -- what ends a frame to us is an exchange
-  ended : (c : Call) (ds : List ℕ) (e : Ends a calls c ds) → after a (calls ++ (c ∷ [])) .device ≡ exchangeOf ds a (here .device) (e .buffer) .next .device
+  ended : (c : Call) (ds : List ℕ) (e : Ends a calls c ds) → after a (calls ++ (c ∷ [])) .device ≡ exchangeOf (a .framing) ds (a .address) (here .device) (e .buffer) .next .device
   unfolding callOf
   ended c ds e =
       ap (λ (k : Controller). k .device) (one-more c) ∙
       ap (λ (x : Call). callOf x here .next .device) (e .is) ∙
-      ap (λ (t : Turn Exchange). t .next .device) (every-controller-receives a calls .a-frame-that-ends-is-an-exchange ds (e .buffer) (e .whole) (e .long))
+      ap (λ (t : Turn Exchange). t .next .device) (every-controller-receives a calls .a-frame-that-ends-is-an-exchange (e .last) ds (e .buffer) (e .whole) (e .long))
 
   -- any other call leaves a device alone that waits with its text
   unheard : (b : ℕ) (l : Lent) → ((ds : List ℕ) → Ends a calls (byte b l) ds → ⊥) → byteOf here b (l .buffer) .next .reply .controller .device ≡ here .device
@@ -91,7 +92,7 @@ module _ (a : Address) (calls : List Call) where
           let long = ltb-false (length (l .buffer)) 32 h in
           ap (λ (t : Turn Exchange). t .next .device)
           (every-controller-receives a calls .every-other-byte-is-silent b (l .buffer)
-          (λ e ds hand. silent ds (record { buffer = l .buffer; is = ap (λ (x : ℕ). byte x l) e; long = long; whole = hand }))
+          (λ ds hand. silent ds (record { last = b; buffer = l .buffer; is = refl; long = long; whole = hand }))
           long)
 
   idle : here .device .core .course .state ≡ Stored → (c : Call) → ((ds : List ℕ) → Ends a calls c ds → ⊥) → SameBut here (callOf c here .next .device)
@@ -114,11 +115,11 @@ module _ (added : List ℕ) (d : Device) (stored : d .core .course .state ≡ St
   stays = rw stored
 
 -- a frame to us, in a device that has a text stored
-module _ (ds : List ℕ) (a : Address) (d : Device) (buf text : List ℕ) (k : Keeps text d) where
+module _ (f : Framing) (ds : List ℕ) (a : Address) (d : Device) (buf text : List ℕ) (k : Keeps text d) where
   abbrev next : Device
-  next = exchangeOf ds a d buf .next .device
+  next = exchangeOf f ds a d buf .next .device
 
-  by-control : (c : Control) → receivedOf ds ≡ D.Control c → exchangeOf ds a d buf .next .device ≡ actOf (actionOf c) (addedOf ds) d .next .device
+  by-control : (c : Control) → receivedOf ds ≡ D.Control c → exchangeOf f ds a d buf .next .device ≡ actOf (actionOf c) (addedOf ds) d .next .device
   unfolding exchangeOf dealtOf taskOf performedOf
   by-control c is = rw is
 
@@ -135,11 +136,11 @@ module _ (ds : List ℕ) (a : Address) (d : Device) (buf text : List ℕ) (k : K
   T-keeps is = rw (by-control Stop is, stays (addedOf ds) d (k .stored)) (record { stored = k .stored; whole = k .whole })
 
   report-keeps : isReport (receivedOf ds) ≡ true → Keeps text next
-  report-keeps is = rw (reports-leave-everything ds a d buf is .device) k
+  report-keeps is = rw (reports-leave-everything ds a d f buf is .device) k
 
   refused-keeps : (refusalOf ds a d ≡ 0 → ⊥) → Keeps text next
   refused-keeps why =
-      let left = a-refused-frame-leaves-the-error-only ds a d buf why in
+      let left = a-refused-frame-leaves-the-error-only ds a d f buf why in
       go (isReport (receivedOf ds)) (left .core) (left .text)
     where
       go : (x : Bool) → next .core ≡ (if x then d .core else coreError (refusalOf ds a d) (columnAfter (receivedOf ds) (d .core .course .misread)) (d .core)) → next .text ≡ d .text → Keeps text next
@@ -147,7 +148,7 @@ module _ (ds : List ℕ) (a : Address) (d : Device) (buf text : List ℕ) (k : K
       go false c t = record { stored = rw c (k .stored); whole = rw (c, t) (k .whole) }
 
 -- parts
-module _ (a : Address) where
+module _ (a : Making) where
   ready-after : (calls : List Call) → Ready (after a calls .device .core) (after a calls .device .text)
   ready-after calls = let sound = every-controller-is-sound a calls in record { valid = sound .valid .core; long = sound .sized .text }
 
@@ -160,20 +161,20 @@ module _ (a : Address) where
     waits-with p =
         let d = after a calls .device in
         let buf = p .ends .buffer in
-        let (m, is) = an-accepted-string-waits-or-runs-from-its-start ds (p .size) false (p .string) a d buf (p .accepted) in
-        rw (ended a calls c ds (p .ends)) (record { stored = ap (λ (x : Course). x .state) is; whole = kept ds (p .size) false (p .string) a d buf (ready-after calls) (p .accepted) })
+        let (m, is) = an-accepted-string-waits-or-runs-from-its-start ds (p .size) false (p .string) (a .framing) (a .address) d buf (p .accepted) in
+        rw (ended a calls c ds (p .ends)) (record { stored = ap (λ (x : Course). x .state) is; whole = kept ds (p .size) false (p .string) (a .framing) (a .address) d buf (ready-after calls) (p .accepted) })
 
     runs-with : (p : Part true a calls c ds) → Runs (wholeOf ds (after a calls .device)) later
     runs-with p =
         let d = after a calls .device in
         let buf = p .ends .buffer in
-        let (m, is) = an-accepted-string-waits-or-runs-from-its-start ds (p .size) true (p .string) a d buf (p .accepted) in
+        let (m, is) = an-accepted-string-waits-or-runs-from-its-start ds (p .size) true (p .string) (a .framing) (a .address) d buf (p .accepted) in
         rw (ended a calls c ds (p .ends))
         (record {
           running = ap (λ (x : Course). x .state) is;
           start = ap (λ (x : Course). x .at) is;
           loops = ap (λ (x : Course). x .loops) is;
-          whole = kept ds (p .size) true (p .string) a d buf (ready-after calls) (p .accepted);
+          whole = kept ds (p .size) true (p .string) (a .framing) (a .address) d buf (ready-after calls) (p .accepted);
         })
 
     -- what stands before it is what was loaded
@@ -188,17 +189,17 @@ module _ (a : Address) where
       let k = parts-are-stored-whole before t l in
       rw (one-more a before c, idle a before (k .stored) c silent .1) (record { stored = k .stored; whole = k .whole })
   parts-are-stored-whole calls text (report before t c ds l e is) =
-      rw (ended a before c ds e) (report-keeps ds a (after a before .device) (e .buffer) t (parts-are-stored-whole before t l) is)
+      rw (ended a before c ds e) (report-keeps (a .framing) ds (a .address) (after a before .device) (e .buffer) t (parts-are-stored-whole before t l) is)
   parts-are-stored-whole calls text (refused before t c ds l e why) =
-      rw (ended a before c ds e) (refused-keeps ds a (after a before .device) (e .buffer) t (parts-are-stored-whole before t l) why)
+      rw (ended a before c ds e) (refused-keeps (a .framing) ds (a .address) (after a before .device) (e .buffer) t (parts-are-stored-whole before t l) why)
   parts-are-stored-whole calls text (Parts.stop before t c ds l e is) =
-      rw (ended a before c ds e) (T-keeps ds a (after a before .device) (e .buffer) t (parts-are-stored-whole before t l) is)
+      rw (ended a before c ds e) (T-keeps (a .framing) ds (a .address) (after a before .device) (e .buffer) t (parts-are-stored-whole before t l) is)
 
-pub a-method-in-parts-runs-as-one-text : (a : Address) (calls : List Call) (text : List ℕ) → InParts a calls text
+pub a-method-in-parts-runs-as-one-text : (a : Making) (calls : List Call) (text : List ℕ) → InParts a calls text
 a-method-in-parts-runs-as-one-text a calls text =
     record {
       parts-are-stored-whole = parts-are-stored-whole a calls text;
-      parts-and-R-run-as-one-text = λ c ds l e is ok. rw (ended a calls c ds e) (R-runs ds a (after a calls .device) (e .buffer) text (parts-are-stored-whole a calls text l) is ok);
+      parts-and-R-run-as-one-text = λ c ds l e is ok. rw (ended a calls c ds e) (R-runs (a .framing) ds (a .address) (after a calls .device) (e .buffer) text (parts-are-stored-whole a calls text l) is ok);
       parts-and-a-string-with-R-run-as-one-text =
           λ c ds l p. subst (λ (x : List ℕ). Runs x (after a (calls ++ (c ∷ [])) .device)) (behind a calls c ds text (parts-are-stored-whole a calls text l)) (runs-with a calls c ds p);
     }

@@ -41,13 +41,12 @@ use Rattle.machine.specs.Act.{haltOf, stopOf, changedOf, doneOf, actedOf, actOf
 use Rattle.machine.specs.Device.{freshOf, tickOf, haltedOf}
 use Rattle.machine.specs.History.{moving}
 use Rattle.machine.specs.OnCourse.{Failing, uninitialised, steep, outside, tipless, unready, unknown, no-way, no-zero}
-use Rattle.pipettor.specs.declared.address.Address.{Address}
 use Rattle.pipettor.specs.declared.Controller.{Controller}
 use Rattle.pipettor.specs.Byte.{taskOf, performedOf, dealtOf}
-use Rattle.pipettor.specs.Controller.{madeOf, tickedOf, stoppedOf}
+use Rattle.pipettor.specs.Controller.{madeOf, tickedOf, stoppedOf, framingIs}
 use Rattle.frames.specs.Frame.{exchangeOf}
 use Rattle.frames.proofs.Controls.{every-frame-but-T-and-reset-adds-nothing}
-use Rattle.demands.specs.Calls.{eventsOf, after, history}
+use Rattle.demands.specs.Calls.{Making, eventsOf, after, history}
 use Rattle.demands.specs.Demands.{Takes}
 use Rattle.demands.specs.Records.{asked, CarriedOut, Detects, detecting, MovesNothing, plungerAt, Records, Recording}
 
@@ -191,11 +190,11 @@ module _ (s : Sense) (k : Controller) where
   still-adds Stopped h = refl
   still-adds Done h = refl
 
-  T-adds : (buf : List ℕ) → exchangeOf (84 ∷ []) (k .address) (k .device) buf .events ≡ stoppedOf k .events
+  T-adds : (buf : List ℕ) → exchangeOf (framingIs k) (84 ∷ []) (k .address) (k .device) buf .events ≡ stoppedOf k .events
   unfolding exchangeOf dealtOf receivedOf spaceless dataOf controlOf taskOf performedOf actOf cellOf loopsBy verdictOf actedOf doneOf changedOf stoppedOf haltedOf
   T-adds buf = refl
 
-  reset-adds : (buf : List ℕ) → exchangeOf (33 ∷ 82 ∷ []) (k .address) (k .device) buf .events ≡ start (plungerAt k) ∷ []
+  reset-adds : (buf : List ℕ) → exchangeOf (framingIs k) (33 ∷ 82 ∷ []) (k .address) (k .device) buf .events ≡ start (plungerAt k) ∷ []
   unfolding exchangeOf dealtOf receivedOf spaceless dataOf controlOf taskOf performedOf actOf cellOf loopsBy verdictOf actedOf doneOf changedOf resetOf
   reset-adds buf = refl
 
@@ -221,10 +220,10 @@ module _ (s : Sense) (k : Controller) where
     a-stop-without-movement-adds-nothing = λ h. still-adds (k .device .core .course .state) h;
     T-stops = T-adds;
     a-reset-starts-it-at-the-plunger = reset-adds;
-    every-other-frame-adds-nothing = λ ds buf p r. every-frame-but-T-and-reset-adds-nothing (k .address) (k .device) buf ds p r;
+    every-other-frame-adds-nothing = λ ds buf p r. every-frame-but-T-and-reset-adds-nothing (k .address) (k .device) (framingIs k) buf ds p r;
   }
 
-made : (a : Address) → history a [] ≡ start 0 ∷ []
+made : (a : Making) → history a [] ≡ start 0 ∷ []
 unfolding history eventsOf madeOf freshOf freshBody
 made a = refl
 

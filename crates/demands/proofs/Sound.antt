@@ -22,12 +22,11 @@ use Rattle.machine.proofs.Keeps.{step-keeps}
 use Rattle.machine.proofs.Position.{CoreTold, step-tells, act-tells, stop-tells}
 use Rattle.machine.proofs.Homing.{Homes, a-call-keeps-homing}
 use Rattle.machine.proofs.OnCourse.{a-call-keeps-on-course, the-fresh-device-is-on-course}
-use Rattle.pipettor.specs.declared.address.Address.{Address}
 use Rattle.pipettor.specs.declared.Controller.{Controller}
 use Rattle.pipettor.specs.Valid.{Valid}
 use Rattle.pipettor.specs.Controller.{on, madeOf, tickedOf, stoppedOf, advancedOf, runOf}
 use Rattle.pipettor.proofs.Keeps.{Sized, made-is-valid, tick-keeps, stop-keeps-valid, advance-keeps, run-keeps, byte-keeps, byte-keeps-sizes, listen-keeps-valid, listen-keeps-sizes}
-use Rattle.demands.specs.Calls.{Call, byte, listen, tick, stop, advance, run, ticksEvents, callOf, afterOf, eventsOf, after, history}
+use Rattle.demands.specs.Calls.{Making, made, Call, byte, listen, tick, stop, advance, run, ticksEvents, callOf, afterOf, eventsOf, after, history}
 use Rattle.demands.proofs.Does.{Does, none, new-error, call, ticks, every-call-does}
 
 -- the exact position stays the sum of the history, and the plunger by it or on its way
@@ -102,7 +101,7 @@ call-keeps-sized (run n x) k s v =
     (λ h. record { frame = s .frame; text = s .text })
     (λ h. record { frame = s .frame; text = s .text })
 
-pub made-is-sized : (a : Address) → Sized (madeOf a .next)
+pub made-is-sized : (a : Making) → Sized (made a .next)
 unfolding madeOf freshOf
 made-is-sized a = record { frame = length-replicate {A = ℕ} 320 0; text = length-replicate {A = ℕ} 256 0 }
 
@@ -114,10 +113,10 @@ pub record Sound (k : Controller) (s : Sum) : Type 0 where
   pub on-course : OnCourse (k .device)
   pub homes : Homes (k .device .core)
 
-made-is-sound : (a : Address) → Sound (madeOf a .next) (sumOf (madeOf a .events))
+made-is-sound : (a : Making) → Sound (made a .next) (sumOf (made a .events))
 unfolding madeOf freshOf freshBody sumOf addedUp IsSum
 made-is-sound a =
-    record { valid = made-is-valid a; sized = made-is-sized a; told = record { sum = refl; near = omega arith }; on-course = the-fresh-device-is-on-course; homes = tt }
+    record { valid = made-is-valid (a .framing) (a .address); sized = made-is-sized a; told = record { sum = refl; near = omega arith }; on-course = the-fresh-device-is-on-course; homes = tt }
 
 call-keeps-sound : (c : Call) (k : Controller) (s : Sum) → Sound k s → Sound (callOf c k .next) (addedUp s (callOf c k .events))
 call-keeps-sound c k s h =
@@ -138,9 +137,9 @@ calls-keep-sound (c ∷ cs) k s h =
     rw (added-on s (t .events) (eventsOf cs (t .next)))
     (calls-keep-sound cs (t .next) (addedUp s (t .events)) (call-keeps-sound c k s h))
 
-pub every-controller-is-sound : (a : Address) (calls : List Call) → Sound (after a calls) (sumOf (history a calls))
+pub every-controller-is-sound : (a : Making) (calls : List Call) → Sound (after a calls) (sumOf (history a calls))
 unfolding after history sumOf
 every-controller-is-sound a calls =
-    let m = madeOf a in
+    let m = made a in
     rw (added-on (sum 0 0 0) (m .events) (eventsOf calls (m .next)))
     (calls-keep-sound calls (m .next) (sumOf (m .events)) (made-is-sound a))

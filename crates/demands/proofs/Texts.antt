@@ -7,7 +7,6 @@ use Prim.Native.Nat.{ℕ, zero, suc, _+_, _%_, _≤_}
 use native.Mathlib.Omega.{arith}
 use lib.ListN.{length, take, getD}
 use Rattle.basics.specs.Choice.{if_then_else_}
-use Rattle.basics.specs.Bytes.{every}
 use Rattle.basics.specs.Lay.{over}
 use Rattle.command.specs.declared.refusal.Refusal.{Refusal}
 use Rattle.command.specs.declared.refusal.Refusal.the-variants as R
@@ -15,7 +14,8 @@ use Rattle.command.specs.declared.refusal.Verdict.the-variants.{Fine, Refused}
 use Rattle.command.proofs.Numbers.{zero-is-fine}
 use Rattle.text.specs.declared.Data.the-variants as D
 use Rattle.text.specs.Data.{spaceless, body, receivedOf}
-use Rattle.line.specs.Wire.{dataByte}
+use Rattle.line.specs.declared.Framing.{Framing}
+use Rattle.line.specs.Wire.{Form, formed, Sendable, Hears}
 use Rattle.line.specs.Answer as Answer
 use Rattle.line.specs.Answer.{statusOf}
 use Rattle.line.proofs.Answers.{status-bits}
@@ -48,6 +48,7 @@ use Rattle.machine.proofs.Runs.{ready-ticks}
 use Rattle.machine.proofs.Stored.{a-string-that-is-loaded-is-stored-whole}
 use Rattle.pipettor.specs.declared.address.Address.{Address}
 use Rattle.pipettor.specs.declared.Controller.{Controller}
+use Rattle.pipettor.specs.Address.{letterOf}
 use Rattle.pipettor.specs.Controller.{advancedOf}
 use Rattle.pipettor.specs.Byte.{stringAction, taskOf, performedOf, Exchange, dealtOf}
 use Rattle.frames.specs.Frame.{exchangeOf}
@@ -55,7 +56,7 @@ use Rattle.frames.specs.Refused.{numberFor, refusalOf, Known}
 use Rattle.frames.specs.Limits.{frontOf, wholeOf}
 use Rattle.frames.proofs.Refusals.{no-other-number, every-frame-is-answered}
 use Rattle.frames.proofs.Texts.{added-body}
-use Rattle.demands.specs.Calls.{Call, after}
+use Rattle.demands.specs.Calls.{Making, Call, after}
 use Rattle.demands.specs.Frames.{frameSeen}
 use Rattle.demands.specs.Texts.{held, SaysAccepted, waitsOrRuns}
 use Rattle.demands.proofs.Frames.{a-frame-is-seen-as-an-exchange}
@@ -133,8 +134,8 @@ accepted-is-0 n (inr (inr (inr (inl h)))) e = omega arith
 accepted-is-0 n (inr (inr (inr (inr h)))) e = omega arith
 
 -- data that are a string
-module _ (ds : List ℕ) (n : ℕ) (run : Bool) (string : receivedOf ds ≡ D.Text n run) (a : Address) (d : Device) (buf : List ℕ) where
-  acts : exchangeOf ds a d buf .next .device ≡ Machine.callOf (Machine.act (stringAction run) (body (spaceless ds))) d .next
+module _ (ds : List ℕ) (n : ℕ) (run : Bool) (string : receivedOf ds ≡ D.Text n run) (f : Framing) (a : Address) (d : Device) (buf : List ℕ) where
+  acts : exchangeOf f ds a d buf .next .device ≡ Machine.callOf (Machine.act (stringAction run) (body (spaceless ds))) d .next
   unfolding exchangeOf dealtOf taskOf performedOf Machine.callOf
   acts = rw (added-body ds n run string, string)
 
@@ -142,27 +143,27 @@ module _ (ds : List ℕ) (n : ℕ) (run : Bool) (string : receivedOf ds ≡ D.Te
   unfolding refusalOf numberFor
   number-is = rw (added-body ds n run string, string)
 
-  status-is : getD (exchangeOf ds a d buf .next .buffer) 2 0 ≡ statusOf (readyOf (exchangeOf ds a d buf .next .device .core)) (refusalOf ds a d)
+  status-is : getD (exchangeOf f ds a d buf .next .buffer) 2 0 ≡ statusOf (readyOf (exchangeOf f ds a d buf .next .device .core)) (refusalOf ds a d)
   unfolding over Answer.answerOf
-  status-is = rw (every-frame-is-answered ds a d buf .buffer, string)
+  status-is = rw (every-frame-is-answered ds a d f buf .buffer, string)
 
-  accepted : SaysAccepted (exchangeOf ds a d buf .next .buffer) → refusalOf ds a d ≡ 0
+  accepted : SaysAccepted (exchangeOf f ds a d buf .next .buffer) → refusalOf ds a d ≡ 0
   accepted e =
-      let bits = status-bits (readyOf (exchangeOf ds a d buf .next .device .core)) (refusalOf ds a d) .low in
+      let bits = status-bits (readyOf (exchangeOf f ds a d buf .next .device .core)) (refusalOf ds a d) .low in
       let says = rw status-is at e in
       accepted-is-0 (refusalOf ds a d) (no-other-number ds a d) (omega arith)
 
   is-fine : refusalOf ds a d ≡ 0 → verdictFor (stringAction run) (body (spaceless ds)) d ≡ Fine
   is-fine e = zero-is-fine (verdictFor (stringAction run) (body (spaceless ds)) d) (rw number-is at e)
 
-  pub kept : Ready (d .core) (d .text) → refusalOf ds a d ≡ 0 → held (exchangeOf ds a d buf .next .device) ≡ wholeOf ds d
+  pub kept : Ready (d .core) (d .text) → refusalOf ds a d ≡ 0 → held (exchangeOf f ds a d buf .next .device) ≡ wholeOf ds d
   unfolding Machine.callOf
   kept ready e =
       let s = d .core .course .state in
       rw acts (stored-by (body (spaceless ds)) d ready run (orderOf (stringAction run) s) (frontOf s (held d)) refl (loads run s (held d)) (is-fine e))
 
   pub an-accepted-string-waits-or-runs-from-its-start :
-      refusalOf ds a d ≡ 0 → (m : ℕ) × (exchangeOf ds a d buf .next .device .core .course ≡ courseOf 0 m noLoops (waitsOrRuns run) 0 0)
+      refusalOf ds a d ≡ 0 → (m : ℕ) × (exchangeOf f ds a d buf .next .device .core .course ≡ courseOf 0 m noLoops (waitsOrRuns run) 0 0)
   unfolding Machine.callOf
   an-accepted-string-waits-or-runs-from-its-start e =
       let s = d .core .course .state in
@@ -171,16 +172,16 @@ module _ (ds : List ℕ) (n : ℕ) (run : Bool) (string : receivedOf ds ≡ D.Te
 
 -- No accepted text loses a character: where the answer to a frame says accepted, all of its text is held, behind what was stored where it is joined.
 pub no-accepted-text-loses-a-character :
-    (a : Address) (calls : List Call) (ds buf : List ℕ) (n : ℕ) (run : Bool) → every dataByte ds ≡ true → 32 ≤ length buf → receivedOf ds ≡ D.Text n run →
+    (form : Form) (a : Making) (calls : List Call) (ds buf : List ℕ) (n : ℕ) (run : Bool) → Hears form (after a calls .line) → Sendable form (letterOf (after a calls .address)) ds → 32 ≤ length buf → receivedOf ds ≡ D.Text n run →
     (let k = after a calls in
-    let e = frameSeen k ds buf .next in
+    let e = frameSeen form k ds buf .next in
     SaysAccepted (e .buffer) → held (e .device) ≡ wholeOf ds (k .device))
-no-accepted-text-loses-a-character a calls ds buf n run good long string =
+no-accepted-text-loses-a-character form a calls ds buf n run heard good long string =
     let k = after a calls in
     let sound = every-controller-is-sound a calls in
     subst (λ (e : Turn Exchange). SaysAccepted (e .next .buffer) → held (e .next .device) ≡ wholeOf ds (k .device))
-    (sym (a-frame-is-seen-as-an-exchange k (sound .sized .frame) buf long ds good))
-    (λ e. kept ds n run string (k .address) (k .device) buf (record { valid = sound .valid .core; long = sound .sized .text }) (accepted ds n run string (k .address) (k .device) buf e))
+    (sym (a-frame-is-seen-as-an-exchange k (sound .sized .frame) buf long form ds heard good))
+    (λ e. kept ds n run string (formed form) (k .address) (k .device) buf (record { valid = sound .valid .core; long = sound .sized .text }) (accepted ds n run string (formed form) (k .address) (k .device) buf e))
 
 -- while it runs, a text stays as it was accepted, or is erased whole
 abbrev Stays : Course → Course → Type 0

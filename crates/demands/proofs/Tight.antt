@@ -158,8 +158,20 @@ line-printable κs args z z′ ws ws′ p q = result p q
 pub line-Line-fresh : Tight line.Line.fresh.Kinds.ps line.Line.fresh.Kinds.r line.Line.fresh.Reads.Learnt
 line-Line-fresh κs args z z′ ws ws′ p q = result p q
 
+pub line-Line-framing : Tight line.Line.framing.Kinds.ps line.Line.framing.Kinds.r line.Line.framing.Reads.Learnt
+line-Line-framing κs args z z′ ws ws′ p q = result p q
+
+pub line-dt-Dt-hear : Tight line.dt.Dt.hear.Kinds.ps line.dt.Dt.hear.Kinds.r line.dt.Dt.hear.Reads.Learnt
+line-dt-Dt-hear κs args z z′ ws ws′ p q = result p q
+
+pub line-oem-Oem-hear : Tight line.oem.Oem.hear.Kinds.ps line.oem.Oem.hear.Kinds.r line.oem.Oem.hear.Reads.Learnt
+line-oem-Oem-hear κs args z z′ ws ws′ p q = result p q
+
 pub line-Line-hear : Tight line.Line.hear.Kinds.ps line.Line.hear.Kinds.r line.Line.hear.Reads.Learnt
 line-Line-hear κs args z z′ ws ws′ p q = result p q
+
+pub line-Deed-is-whole : Tight line.Deed.is_whole.Kinds.ps line.Deed.is_whole.Kinds.r line.Deed.is_whole.Reads.Learnt
+line-Deed-is-whole κs args z z′ ws ws′ p q = result p q
 
 pub line-keep : Tight line.keep.Kinds.ps line.keep.Kinds.r line.keep.Reads.Learnt
 line-keep κs args z z′ ws ws′ p q = lent (λ y. (y, (tt, (tt, tt)))) refl refl p q
@@ -167,8 +179,11 @@ line-keep κs args z z′ ws ws′ p q = lent (λ y. (y, (tt, (tt, tt)))) refl r
 pub line-status : Tight line.status.Kinds.ps line.status.Kinds.r line.status.Reads.Learnt
 line-status κs args z z′ ws ws′ p q = result p q
 
+pub line-sum : Tight line.sum.Kinds.ps line.sum.Kinds.r line.sum.Reads.Learnt
+line-sum κs args z z′ ws ws′ p q = result p q
+
 pub line-answer : Tight line.answer.Kinds.ps line.answer.Kinds.r line.answer.Reads.Learnt
-line-answer κs args z z′ ws ws′ p q = lent (λ y. (tt, (tt, (y, tt)))) (p .said) (q .said) (p .left) (q .left)
+line-answer κs args z z′ ws ws′ p q = lent (λ y. (tt, (tt, (tt, (y, tt))))) (p .said) (q .said) (p .left) (q .left)
 
 -- text
 pub text-check : Tight text.check.Kinds.ps text.check.Kinds.r text.check.Reads.Learnt
@@ -339,6 +354,9 @@ pipettor-Controller-byte κs args z z′ ws ws′ p q = whole (λ (a : After). a
 pub pipettor-Controller-listen : Tight pipettor.Controller.listen.Kinds.ps pipettor.Controller.listen.Kinds.r pipettor.Controller.listen.Reads.Learnt
 pipettor-Controller-listen κs args z z′ ws ws′ p q = result (p .is) (q .is)
 
+pub pipettor-Controller-framing : Tight pipettor.Controller.framing.Kinds.ps pipettor.Controller.framing.Kinds.r pipettor.Controller.framing.Reads.Learnt
+pipettor-Controller-framing κs args z z′ ws ws′ p q = result p q
+
 pub pipettor-Controller-ready : Tight pipettor.Controller.ready.Kinds.ps pipettor.Controller.ready.Kinds.r pipettor.Controller.ready.Reads.Learnt
 pipettor-Controller-ready κs args z z′ ws ws′ p q = result p q
 
@@ -391,7 +409,7 @@ pub printing-used : Tight printing.used.Kinds.ps printing.used.Kinds.r printing.
 printing-used κs args z z′ ws ws′ p q = lent (λ y. (tt, (tt, (tt, (tt, (y, (tt, tt))))))) (p .ends) (q .ends) (p .left) (q .left)
 
 pub printing-show : Tight printing.show.Kinds.ps printing.show.Kinds.r printing.show.Reads.Learnt
-printing-show κs args z z′ ws ws′ p q = lent (λ y. (tt, (tt, (y, (tt, tt))))) (p .ends) (q .ends) (p .left) (q .left)
+printing-show κs args z z′ ws ws′ p q = lent (λ y. (tt, (tt, (tt, (y, (tt, tt)))))) (p .ends) (q .ends) (p .left) (q .left)
 
 pub printing-raw : Tight printing.raw.Kinds.ps printing.raw.Kinds.r printing.raw.Reads.Learnt
 printing-raw κs args z z′ ws ws′ p q = lent (λ y. (tt, (tt, (tt, (y, (tt, tt)))))) (p .ends) (q .ends) (p .left) (q .left)

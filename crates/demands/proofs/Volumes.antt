@@ -11,8 +11,7 @@ use Rattle.motion.specs.Events.{Event, start, volume}
 use Rattle.machine.proofs.History.{added-on}
 use Rattle.machine.specs.History.{sum, addedUp, sumOf, IsSum, moving}
 use Rattle.machine.proofs.Position.{at-rest}
-use Rattle.pipettor.specs.declared.address.Address.{Address}
-use Rattle.demands.specs.Calls.{Call, after, history}
+use Rattle.demands.specs.Calls.{Making, Call, after, history}
 use Rattle.demands.proofs.Sound.{every-controller-is-sound}
 
 module _ (v : Volume) (rate : ℕ) where
@@ -24,7 +23,7 @@ module _ (v : Volume) (rate : ℕ) where
       let z : up + m + n * m ≡ up + suc n * m = omega arith in
       ups n origin (up + m) ∙ ap (λ (x : ℕ). sum origin x 0) z
 
-  module _ (a : Address) (calls : List Call) (before : List Event) (place n : ℕ) (same : history a calls ≡ before ++ start place ∷ replicate n (volume v rate true)) where
+  module _ (a : Making) (calls : List Call) (before : List Event) (place n : ℕ) (same : history a calls ≡ before ++ start place ∷ replicate n (volume v rate true)) where
     n-ups : sumOf (history a calls) ≡ sum place (0 + n * millionthsOf v rate) 0
     unfolding sumOf addedUp
     n-ups =

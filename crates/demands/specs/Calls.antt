@@ -2,6 +2,7 @@
 use Prim.Native.Nat.{ℕ}
 use mathlib.Core.List.{List, [], _∷_, _++_}
 use lib.ListN.{replicate}
+use Rattle.line.specs.declared.Framing.{Framing}
 use Rattle.motion.specs.declared.Sense.{Sense}
 use Rattle.motion.specs.Events.{Event, Turn, quiet}
 use Rattle.machine.specs.declared.Device.{Device}
@@ -80,12 +81,20 @@ unfoldable pub answersOf : List Call → Controller → List Answered
 answersOf [] k = []
 answersOf (c ∷ cs) k = answerOf c k ∷ answersOf cs (callOf c k .next)
 
+-- what is chosen at making: the framing (02, W-204) and the address
+pub record Making : Type 0 where
+  pub framing : Framing
+  pub address : Address
+
+abbrev pub made : Making → Turn Controller
+made a = madeOf (a .framing) (a .address)
+
 -- the same from making
-unfoldable pub after : Address → List Call → Controller
-after a calls = afterOf calls (madeOf a .next)
+unfoldable pub after : Making → List Call → Controller
+after a calls = afterOf calls (made a .next)
 
-unfoldable pub history : Address → List Call → List Event
-history a calls = madeOf a .events ++ eventsOf calls (madeOf a .next)
+unfoldable pub history : Making → List Call → List Event
+history a calls = made a .events ++ eventsOf calls (made a .next)
 
-unfoldable pub answers : Address → List Call → List Answered
-answers a calls = answersOf calls (madeOf a .next)
+unfoldable pub answers : Making → List Call → List Answered
+answers a calls = answersOf calls (made a .next)

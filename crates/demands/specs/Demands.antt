@@ -6,7 +6,6 @@ use mathlib.Core.Bool.{Bool, true, false}
 use mathlib.Core.List.{List, [], _∷_, _++_}
 use lib.ListN.{length, take, drop}
 use Rattle.basics.specs.Choice.{if_then_else_}
-use Rattle.basics.specs.Bytes.{every}
 use Rattle.basics.specs.Exactly.{Exactly}
 use Rattle.settings.specs.declared.Volume.{Volume}
 use Rattle.command.specs.declared.refusal.Refusal.{Refusal}
@@ -16,7 +15,7 @@ use Rattle.command.specs.declared.Command.the-variants as C
 use Rattle.command.specs.Numbers.{verdictNumber}
 use Rattle.text.specs.declared.Question.the-variants as Q
 use Rattle.line.specs.declared.Report.the-variants.{Whole}
-use Rattle.line.specs.Wire.{dataByte}
+use Rattle.line.specs.Wire.{Form, formed, Sendable, Hears as ReceiverHears}
 use Rattle.level.specs.declared.Pressure.the-variants.{Beyond}
 use Rattle.level.specs.declared.Search.{Search}
 use Rattle.level.specs.declared.Finding.the-variants.{Missed}
@@ -40,21 +39,21 @@ use Rattle.machine.specs.OnCourse.{Cause, Fault, leftIn}
 use Rattle.machine.specs.Tips.{Ejects, NoE}
 use Rattle.reports.specs.declared.Told.the-variants.{Says}
 use Rattle.pipettor.specs.declared.address.Address.{Address}
-use Rattle.pipettor.specs.declared.address.Address.the-variants.{One}
 use Rattle.pipettor.specs.declared.address.Given.the-variants.{Is}
 use Rattle.pipettor.specs.declared.Controller.{Controller}
 use Rattle.pipettor.specs.declared.Said.{Said}
 use Rattle.pipettor.specs.declared.Said.the-variants.{Silent, Answer, S1}
-use Rattle.pipettor.specs.Address.{addressOf}
+use Rattle.pipettor.specs.Address.{letterOf, addressOf}
 use Rattle.pipettor.specs.Valid.{Valid}
 use Rattle.pipettor.specs.Byte as Byte
 use Rattle.pipettor.specs.Byte.{toldOf, byteOf}
 use Rattle.pipettor.specs.Controller.{on, tickedOf, stoppedOf, advancedOf, runOf, readyIs}
-use Rattle.demands.specs.Calls.{Call, after, history, answers}
+use Rattle.demands.specs.Calls.{Making, Call, after, history, answers}
 use Rattle.demands.specs.Values.{number, S, saidIs, givenIs, usedIs}
 use Rattle.demands.specs.Frames.{frameSeen, Treated, Hears, frameAfter, ExchangesFrame}
 use Rattle.demands.specs.InHand.{Receives, ReceivesBy}
 use Rattle.demands.specs.Contracts.{Program, Meets, TakesAll, leftBy, answeredBy}
+use Rattle.demands.specs.Script.{bench}
 
 -- 1. Every call is answered, and refuses as 01's table says.
 -- a run's count of ticks: no more than allowed, not ready before so many, and ready after them where fewer than allowed are used
@@ -104,8 +103,9 @@ pub record Answers (k : Controller) : Type 0 where
   pub a-short-buffer-is-S1 : (b : ℕ) (buf : List ℕ) → Exactly (saidIs (byteOf k b buf .next .reply .said) ≡ S 1) (length buf < 32)
   pub S1-changes-nothing : (b : ℕ) (buf : List ℕ) → length buf < 32 → byteOf k b buf ≡ quiet (Byte.after (Byte.reply k S1) buf)
   pub a-byte-writes-its-answer-only : (b : ℕ) (buf : List ℕ) → (let r = byteOf k b buf .next in Written (r .reply .said) buf (r .buffer))
-  -- the bytes of a frame to us, whatever its data: it gets each number exactly where 01's table gives it, and leaves what the table says
-  pub a-frame-is-treated-by-the-table : (ds buf : List ℕ) → every dataByte ds ≡ true → 32 ≤ length buf → Treated ds (k .address) (k .device) buf (frameSeen k ds buf)
+  -- the bytes of a frame to us, whatever its data, in the framing of the controller and where no sum of an earlier one is due: it gets each number exactly where 01's table gives it, and leaves what the table says
+  pub a-frame-is-treated-by-the-table :
+      (form : Form) (ds buf : List ℕ) → ReceiverHears form (k .line) → Sendable form (letterOf (k .address)) ds → 32 ≤ length buf → Treated (formed form) ds (k .address) (k .device) buf (frameSeen form k ds buf)
   -- "S3: more than 60000 ticks asked of a run: nothing changed"
   pub a-long-run-is-S3 : (n : ℕ) (s : Sense) → Exactly (usedIs (runOf n s k .used) ≡ S 3) (60000 < n)
   pub S3-changes-nothing : (n : ℕ) (s : Sense) → 60000 < n → runOf n s k .ticked ≡ record { controller = k; news = noNews }
@@ -152,36 +152,38 @@ pub record Makes : Type 0 where
 
 pub record TotalityAndRefusals : Type 0 where
   pub making : Makes
-  pub calling : (a : Address) (calls : List Call) → Answers (after a calls)
-  -- a frame's bytes with any calls between them, each with any buffer that is long enough: at its CR it is treated by the table, and every other byte is silent
-  pub receiving : (a : Address) (calls : List Call) → Receives a calls
+  pub calling : (a : Making) (calls : List Call) → Answers (after a calls)
+  -- a frame's bytes with any calls between them, each with any buffer that is long enough: at its last it is treated by the table, and every other byte is silent
+  pub receiving : (a : Making) (calls : List Call) → Receives a calls
 
 -- 2. Any program that meets the contracts does what the definition does, call for call: the controller left after calls from making,
 -- and all that was handed back on the way, every byte of every answer buffer included; and what it is called on next meets every premise
-pub record Agrees (p : Program) (a : Address) (calls : List Call) : Type 0 where
+pub record Agrees (p : Program) (a : Making) (calls : List Call) : Type 0 where
   pub premise : Valid (leftBy p calls (p .fresh a))
   pub controller : leftBy p calls (p .fresh a) ≡ after a calls
   pub answered : answeredBy p calls (p .fresh a) ≡ answers a calls
+  -- the framing is the one that was chosen at making, whatever the calls
+  pub framing : p .framing (leftBy p calls (p .fresh a)) ≡ a .framing
   pub ready : p .ready (leftBy p calls (p .fresh a)) ≡ readyIs (after a calls)
 
 pub record Agreement : Type 1 where
   -- a number that is given as an address, and S2
   pub every-program-gives-addresses : (p : Program) → Meets p → (n : ℕ) → p .given n ≡ addressOf n
-  pub every-program-agrees : (p : Program) → Meets p → (a : Address) (calls : List Call) → TakesAll p calls → Agrees p a calls
+  pub every-program-agrees : (p : Program) → Meets p → (a : Making) (calls : List Call) → TakesAll p calls → Agrees p a calls
   -- what the definition makes of whole frames, and of all other bytes, needs no receiver to be said
-  pub frames : (a : Address) (calls : List Call) (buf : List ℕ) → 32 ≤ length buf → Hears (after a calls) buf
+  pub frames : (a : Making) (calls : List Call) (buf : List ℕ) → 32 ≤ length buf → Hears (after a calls) buf
   -- and so a program's answers to a whole frame are the exchange of its data, the address and the device
   pub every-program-exchanges-frames :
-      (p : Program) → Meets p → (a : Address) (calls : List Call) (ds buf : List ℕ) → every dataByte ds ≡ true → 32 ≤ length buf →
-      TakesAll p (calls ++ frameAfter a calls ds buf) → ExchangesFrame p a calls ds buf
-  -- with any calls between its bytes too: at the CR the exchange, and at every other byte silence
-  pub every-program-receives : (p : Program) → Meets p → (a : Address) (calls : List Call) → ReceivesBy p a calls
+      (p : Program) → Meets p → (form : Form) (a : Making) (calls : List Call) (ds buf : List ℕ) → ReceiverHears form (after a calls .line) → Sendable form (letterOf (a .address)) ds → 32 ≤ length buf →
+      TakesAll p (calls ++ frameAfter form a calls ds buf) → ExchangesFrame form p a calls ds buf
+  -- with any calls between its bytes too: at the last the exchange, and at every other byte silence
+  pub every-program-receives : (p : Program) → Meets p → (a : Making) (calls : List Call) → ReceivesBy p a calls
 
 abbrev nL : ℕ → Volume
 nL n = record { amount = n; micro = true }
 
 -- 3. Where the plunger stands, of a controller and the history of the calls it comes from:
-pub record Stands (a : Address) (calls : List Call) : Type 0 where
+pub record Stands (a : Making) (calls : List Call) : Type 0 where
   -- it never leaves its travel
   pub within-travel : after a calls .device .core .body .plunger ≤ 44000
   -- the exact position that is kept is the history's sum: the last start, all that was taken in since, less all that was given out
@@ -190,13 +192,13 @@ pub record Stands (a : Address) (calls : List Call) : Type 0 where
   pub near-at-rest : moving (after a calls .device .core .course .state) ≡ false → StandsBy (after a calls .device .core .body .plunger) (sumOf (history a calls))
 
 abbrev pub Position : Type 0
-Position = (a : Address) (calls : List Call) → Stands a calls
+Position = (a : Making) (calls : List Call) → Stands a calls
 
 -- and it isn't said of a plunger that never leaves 0: calls that move it, and the history they make: making and W at 0, A at the place asked for,
 -- P and D at the compensation of b, nothing for T in a delay, A again, and the plunger's place for a movement that is cut and for a reset
 pub record Moves : Type 0 where
   pub calls : List Call
-  pub plunger : 0 < after One calls .device .core .body .plunger
+  pub plunger : 0 < after bench calls .device .core .body .plunger
   pub events :
-      history One calls ≡
+      history bench calls ≡
       start 0 ∷ start 0 ∷ start 10000000 ∷ volume (nL 500) 40350 true ∷ volume (nL 200) 40350 false ∷ start 44000000000 ∷ start 182000000 ∷ start 182000000 ∷ []

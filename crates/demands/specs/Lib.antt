@@ -12,3 +12,4 @@ pub mod Parts
 pub mod Tips
 pub mod Searches
 pub mod Noise
+pub mod Oem

@@ -8,32 +8,30 @@ use lib.ListN.{length}
 use Rattle.text.specs.declared.Control.the-variants.{Run, Stop}
 use Rattle.text.specs.declared.Data.the-variants as D
 use Rattle.text.specs.Data.{spaceless, body, receivedOf}
-use Rattle.line.specs.Wire.{cr}
 use Rattle.motion.specs.declared.Activity.the-variants.{Between}
 use Rattle.buffer.specs.declared.course.State.the-variants.{Stored, Running}
 use Rattle.buffer.specs.Course.{noLoops}
 use Rattle.machine.specs.declared.Device.{Device}
-use Rattle.pipettor.specs.declared.address.Address.{Address}
-use Rattle.pipettor.specs.Address.{letterOf}
 use Rattle.frames.specs.Refused.{refusalOf, isReport}
 use Rattle.frames.specs.Limits.{frontIn}
-use Rattle.demands.specs.Calls.{lent, Call, byte, after}
-use Rattle.demands.specs.InHand.{to, inHand}
+use Rattle.demands.specs.Calls.{Making, lent, Call, byte, after}
+use Rattle.demands.specs.InHand.{EndsFrame}
 use Rattle.demands.specs.Texts.{held}
 
 -- a call that ends a frame to us with these data
-pub record Ends (a : Address) (calls : List Call) (c : Call) (ds : List ℕ) : Type 0 where
+pub record Ends (a : Making) (calls : List Call) (c : Call) (ds : List ℕ) : Type 0 where
+  pub last : ℕ
   pub buffer : List ℕ
-  pub is : c ≡ byte cr (lent buffer)
+  pub is : c ≡ byte last (lent buffer)
   pub long : 32 ≤ length buffer
-  pub whole : inHand calls ≡ to (letterOf a) ds
+  pub whole : EndsFrame a calls last ds
 
 -- the number such a frame gets then
-abbrev pub numberAfter : Address → List Call → List ℕ → ℕ
-numberAfter a calls ds = refusalOf ds a (after a calls .device)
+abbrev pub numberAfter : Making → List Call → List ℕ → ℕ
+numberAfter a calls ds = refusalOf ds (a .address) (after a calls .device)
 
 -- a string, with R or without, that is accepted
-pub record Part (run : Bool) (a : Address) (calls : List Call) (c : Call) (ds : List ℕ) : Type 0 where
+pub record Part (run : Bool) (a : Making) (calls : List Call) (c : Call) (ds : List ℕ) : Type 0 where
   pub ends : Ends a calls c ds
   pub size : ℕ
   pub string : receivedOf ds ≡ D.Text size run
@@ -41,7 +39,7 @@ pub record Part (run : Bool) (a : Address) (calls : List Call) (c : Call) (ds : 
 
 -- the text that calls have loaded: of a first string without R, behind what was Stored then, and of every further one;
 -- whatever ends no frame to us, a report, a refused frame, and T, leave it alone
-pub data Loaded (a : Address) : List Call → List ℕ → Type 0 where
+pub data Loaded (a : Making) : List Call → List ℕ → Type 0 where
   first : (calls : List Call) (c : Call) (ds : List ℕ) → Part false a calls c ds → Loaded a (calls ++ (c ∷ [])) (frontIn (after a calls .device) ++ body (spaceless ds))
   part : (calls : List Call) (text : List ℕ) (c : Call) (ds : List ℕ) → Loaded a calls text → Part false a calls c ds → Loaded a (calls ++ (c ∷ [])) (text ++ body (spaceless ds))
   between : (calls : List Call) (text : List ℕ) (c : Call) → Loaded a calls text → ((ds : List ℕ) → Ends a calls c ds → ⊥) → Loaded a (calls ++ (c ∷ [])) text
@@ -61,7 +59,7 @@ pub record Runs (text : List ℕ) (d : Device) : Type 0 where
   pub whole : held d ≡ text
 
 -- What parts make.
-pub record InParts (a : Address) (calls : List Call) (text : List ℕ) : Type 0 where
+pub record InParts (a : Making) (calls : List Call) (text : List ℕ) : Type 0 where
   -- the parts are Stored, one behind the other, every character of them
   pub parts-are-stored-whole : Loaded a calls text → Keeps text (after a calls .device)
   -- and then R that is accepted runs exactly them

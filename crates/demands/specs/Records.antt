@@ -25,11 +25,10 @@ use Rattle.buffer.specs.declared.course.State.{State}
 use Rattle.buffer.specs.declared.course.State.the-variants.{Empty, Stored, Running, Stopped, Done}
 use Rattle.machine.specs.History.{moving}
 use Rattle.machine.specs.OnCourse.{Failing}
-use Rattle.pipettor.specs.declared.address.Address.{Address}
 use Rattle.pipettor.specs.declared.Controller.{Controller}
-use Rattle.pipettor.specs.Controller.{tickedOf, stoppedOf}
+use Rattle.pipettor.specs.Controller.{tickedOf, stoppedOf, framingIs}
 use Rattle.frames.specs.Frame.{exchangeOf}
-use Rattle.demands.specs.Calls.{Call, after, history}
+use Rattle.demands.specs.Calls.{Making, Call, after, history}
 use Rattle.demands.specs.Demands.{Takes}
 
 -- a volume in millionths, "at the compensation then in force"
@@ -111,11 +110,11 @@ pub record Records (s : Sense) (k : Controller) : Type 0 where
   pub a-cut-starts-it-at-the-plunger : moving (k .device .core .course .state) ≡ true → stoppedOf k .events ≡ start (plungerAt k) ∷ []
   pub a-stop-without-movement-adds-nothing : moving (k .device .core .course .state) ≡ false → stoppedOf k .events ≡ []
   -- frames: T stops as the host does, !R starts it at the plunger, and no other frame adds anything
-  pub T-stops : (buf : List ℕ) → exchangeOf (84 ∷ []) (k .address) (k .device) buf .events ≡ stoppedOf k .events
-  pub a-reset-starts-it-at-the-plunger : (buf : List ℕ) → exchangeOf (33 ∷ 82 ∷ []) (k .address) (k .device) buf .events ≡ start (plungerAt k) ∷ []
+  pub T-stops : (buf : List ℕ) → exchangeOf (framingIs k) (84 ∷ []) (k .address) (k .device) buf .events ≡ stoppedOf k .events
+  pub a-reset-starts-it-at-the-plunger : (buf : List ℕ) → exchangeOf (framingIs k) (33 ∷ 82 ∷ []) (k .address) (k .device) buf .events ≡ start (plungerAt k) ∷ []
   pub every-other-frame-adds-nothing :
-      (ds buf : List ℕ) → (receivedOf ds ≡ D.Control Stop → ⊥) → (receivedOf ds ≡ D.Control Reset → ⊥) → exchangeOf ds (k .address) (k .device) buf .events ≡ []
+      (ds buf : List ℕ) → (receivedOf ds ≡ D.Control Stop → ⊥) → (receivedOf ds ≡ D.Control Reset → ⊥) → exchangeOf (framingIs k) ds (k .address) (k .device) buf .events ≡ []
 
 pub record Recording : Type 0 where
-  pub making-starts-it-at-0 : (a : Address) → history a [] ≡ start 0 ∷ []
-  pub calling : (a : Address) (calls : List Call) (s : Sense) → Records s (after a calls)
+  pub making-starts-it-at-0 : (a : Making) → history a [] ≡ start 0 ∷ []
+  pub calling : (a : Making) (calls : List Call) (s : Sense) → Records s (after a calls)

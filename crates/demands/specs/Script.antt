@@ -7,7 +7,8 @@ use lib.Dec.{eqb}
 use lib.ListN.{take, drop, replicate}
 use Rattle.basics.specs.Choice.{if_then_else_}
 use Rattle.basics.specs.Bytes.{chars}
-use Rattle.line.specs.Wire.{framed}
+use Rattle.line.specs.declared.Framing.the-variants.{Dt}
+use Rattle.line.specs.Wire.{dt, framed}
 use lib.IntN.{ℤ, pos}
 use Rattle.motion.specs.Bodies.{sensing, nothingSensed}
 use Rattle.machine.specs.declared.Used.the-variants.{Ticks, S3}
@@ -31,7 +32,7 @@ pub data Line : Type 0 where
 
 -- its calls: byte after byte, each with a buffer of 32 bytes lent; ticks; a run
 abbrev pub callsOf : Line → List Call
-callsOf (text answers reply) = map (λ (b : ℕ). byte b (lent (replicate 32 0))) (framed 49 (chars text))
+callsOf (text answers reply) = map (λ (b : ℕ). byte b (lent (replicate 32 0))) (framed dt 49 (chars text))
 callsOf (n ticks place exact millionths) = advance n nothingSensed ∷ []
 callsOf (n run-uses count) = run n nothingSensed ∷ []
 callsOf (n ticks-with tip ask asked) = advance n (sensing tip (pos 0)) ∷ []
@@ -59,16 +60,20 @@ lastOf [] = []
 lastOf (a ∷ []) = dataOf a
 lastOf (a ∷ b ∷ l) = lastOf (b ∷ l)
 
--- a player: the controller left after calls from making at address 1, and all that they hand back
+-- DT at address 1, as at the bench
+abbrev pub bench : Calls.Making
+bench = record { framing = Dt; address = One }
+
+-- a player: the controller left after calls from that making, and all that they hand back
 pub record Player : Type 0 where
   pub left : List Call → Controller
   pub back : List Call → List Answered
 
 abbrev pub definition : Player
-definition = record { left = Calls.after One; back = Calls.answers One }
+definition = record { left = Calls.after bench; back = Calls.answers bench }
 
 abbrev pub program : Program → Player
-program p = record { left = λ calls. leftBy p calls (p .fresh One); back = λ calls. answeredBy p calls (p .fresh One) }
+program p = record { left = λ calls. leftBy p calls (p .fresh bench); back = λ calls. answeredBy p calls (p .fresh bench) }
 
 -- what is seen of a line after earlier calls: the answer to the last byte or to the run; or the plunger and the exact position
 unfoldable pub seen : Player → List Call → Line → List ℕ

@@ -21,11 +21,10 @@ use Rattle.buffer.specs.declared.course.State.the-variants.{Running}
 use Rattle.buffer.specs.Course.{inState}
 use Rattle.machine.specs.Step.{core, noNews}
 use Rattle.machine.specs.Device.{device}
-use Rattle.pipettor.specs.declared.address.Address.{Address}
 use Rattle.pipettor.specs.declared.Controller.{Controller}
 use Rattle.pipettor.specs.Controller.{on, tickedOf}
 use Rattle.pipettor.specs.Byte.{byteOf}
-use Rattle.demands.specs.Calls.{Call, after}
+use Rattle.demands.specs.Calls.{Making, Call, after}
 
 -- a search is in progress
 abbrev pub Searches : Controller → Search → Type 0
@@ -42,7 +41,7 @@ setFor k = k .device .core .body .settings .detection
 
 -- a controller of making and calls that has been searching since it began at a place, with z for the zero; the readings of its ticks since, the last one first. Any bytes may have come between the ticks, as long as it went on searching
 pub data Seeking (d : Detection) (from z : ℕ) : List Pressure → Controller → Type 0 where
-  begins : (a : Address) (calls : List Call) → Searches (after a calls) (Level.begun from z) → setFor (after a calls) ≡ d → Seeking d from z [] (after a calls)
+  begins : (a : Making) (calls : List Call) → Searches (after a calls) (Level.begun from z) → setFor (after a calls) ≡ d → Seeking d from z [] (after a calls)
   a-tick : (s : Sense) (ps : List Pressure) (k : Controller) (f : Search) → Seeking d from z ps k → Searches (ticked s k) f → Seeking d from z (feltIn s ∷ ps) (ticked s k)
   a-byte : (b : ℕ) (buf : List ℕ) (ps : List Pressure) (k : Controller) (f : Search) → Seeking d from z ps k → Searches (told b buf k) f → Seeking d from z ps (told b buf k)
 

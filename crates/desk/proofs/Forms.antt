@@ -14,7 +14,7 @@ use Rattle.basics.specs.Exactly.{Exactly}
 use Rattle.basics.proofs.Choice.{by}
 use Rattle.basics.proofs.Lists.{empty}
 use Rattle.basics.proofs.Digits.{and-both, digit-range}
-use Rattle.line.specs.Wire.{printable}
+use Rattle.line.specs.Bytes.{printable}
 use Rattle.operand.specs.declared.Class.the-variants.{Digit}
 use Rattle.operand.specs.declared.Number.{Number}
 use Rattle.operand.specs.declared.Number.the-variants as N
@@ -25,7 +25,7 @@ use Rattle.operand.proofs.Runs.{run-rest, run-digits, run-all}
 use Rattle.desk.specs.declared.Desk.{Desk}
 use Rattle.desk.specs.declared.Desk.the-variants.{Bench, Rig}
 use Rattle.desk.specs.declared.Quantity.{Quantity}
-use Rattle.desk.specs.declared.Quantity.the-variants.{Ticks, Run, Lend, New, Tip, Press, Minus}
+use Rattle.desk.specs.declared.Quantity.the-variants.{Ticks, Run, Lend, New, Oem, Tip, Press, Minus}
 use Rattle.desk.specs.declared.Word.{Word}
 use Rattle.desk.specs.declared.Word.the-variants as W
 use Rattle.desk.specs.declared.Asked.{Asked}
@@ -34,7 +34,7 @@ use Rattle.desk.specs.declared.Count.{Count}
 use Rattle.desk.specs.declared.Count.the-variants.{Is, Not}
 use Rattle.desk.specs.Counts.{wholeOf, countOf}
 use Rattle.desk.specs.Hex.{paired, bytesIn, hexOf}
-use Rattle.desk.specs.Desk.{spelled, begins, numberWord, wordOf, knows, leastOf, mostOf, allowed, ranged, behind, formOf, askedOf}
+use Rattle.desk.specs.Desk.{spelled, begins, senseWord, numberWord, wordOf, knows, leastOf, mostOf, allowed, ranged, behind, formOf, askedOf}
 use Rattle.desk.specs.Forms.{Clean, Counts, Sends, Gives, Stops, small, Raws}
 use Rattle.desk.proofs.Words.{word-heads}
 use Rattle.desk.proofs.Written.{Read, written-is-read, read-is-written}
@@ -190,12 +190,13 @@ word W.Raw u = true
 word W.Other u = false
 
 word-first : (w : Word) (u : List ℕ) → word w u ≡ true → wordOf (spelled w ++ u) ≡ w
-unfolding wordOf numberWord begins
+unfolding wordOf numberWord senseWord begins
 word-first W.Frame u h = refl
 word-first (W.Number Ticks) u h = refl
 word-first (W.Number Run) u h = refl
 word-first (W.Number Lend) u h = refl
 word-first (W.Number New) u h = refl
+word-first (W.Number Oem) u h = refl
 word-first (W.Number Tip) u h = refl
 word-first (W.Number Press) u h = rw (no-minus u h)
 word-first (W.Number Minus) u h = refl

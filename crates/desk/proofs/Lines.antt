@@ -1,7 +1,7 @@
 -- Laws of `specs/Desk`, one for each return of the code.
-use mathlib.Core.Path.{_≡_, refl, _∙_}
+use mathlib.Core.Path.{_≡_, refl}
 use mathlib.Core.Bool.{Bool, true, false}
-use mathlib.Core.List.{List, [], _∷_}
+use mathlib.Core.List.{List}
 use Prim.Native.Nat.{ℕ, _+_, _-_, _≤_, _<_}
 use native.Mathlib.Omega.{arith}
 use borrow.Author.Tests.{lt-leb, le-leb, eq-eqb, ne-eqb}
@@ -9,11 +9,15 @@ use lib.ListN.{length, getD, take, drop, drop-of-length-le}
 use Rattle.basics.specs.Bytes.{every}
 use Rattle.basics.proofs.Rules.{tests}
 use Rattle.basics.proofs.Lists.{drop-step}
-use Rattle.line.specs.Wire.{printable}
+use Rattle.line.specs.Bytes.{printable}
 use Rattle.desk.specs.declared.Desk.{Desk}
 use Rattle.desk.specs.declared.Asked.{Asked}
 use Rattle.desk.specs.declared.Asked.the-variants.{Wrong}
-use Rattle.desk.specs.Desk.{formOf, askedOf, printedOf, lineOf, LineEnd}
+use mir.Syntax.{w64}
+use mir.Val.{Fits}
+use Rattle.line.specs.declared.Framing.{Framing}
+use Rattle.line.specs.declared.Framing.the-variants.{Dt, Oem}
+use Rattle.desk.specs.Desk.{formOf, askedOf, tailSize, printedOf, lineOf, LineEnd}
 
 -- every byte printable: what is left decides
 pub record Passed (p : ℕ → Bool) (t : List ℕ) (i : ℕ) : Type 0 where
@@ -54,18 +58,29 @@ module _ (desk : Desk) (t : List ℕ) where
     formed r q f = simp (tests, ← e, q, f)
 
 -- what is printed of an answer
-module _ (n : ℕ) (answer : List ℕ) where
-  pub cut-off : length answer < n → take 0 answer ≡ printedOf n answer
+pub tail-case : (f j : Framing) (r : ℕ) → f ≡ j → r ≡ tailSize j → r ≡ tailSize f
+tail-case f j r p e = rw p e
+
+small : (f : Framing) → tailSize f ≤ 3
+unfolding tailSize
+small Dt = omega arith
+small Oem = omega arith
+
+pub tail-fits : (f : Framing) (tail : ℕ) → tail ≡ tailSize f → Fits w64 (2 + tail)
+tail-fits f tail e = omega (arith, small f)
+
+module _ (f : Framing) (n : ℕ) (answer : List ℕ) where
+  pub cut-off : length answer < n → take 0 answer ≡ printedOf f n answer
   unfolding printedOf
   cut-off h = rw (lt-leb n (length answer) h)
 
-  pub too-short : n ≤ length answer → n < 5 → take 0 answer ≡ printedOf n answer
+  pub too-short : (tail : ℕ) → tail ≡ tailSize f → n ≤ length answer → n < 2 + tail → take 0 answer ≡ printedOf f n answer
   unfolding printedOf
-  too-short h k = let z : n - 5 ≡ 0 = omega arith in rw (le-leb n (length answer) h, z)
+  too-short tail e h k = let z : n - (2 + tail) ≡ 0 = omega arith in rw (le-leb n (length answer) h, ← e, z)
 
-  pub status-and-data : n ≤ length answer → 5 ≤ n → take (n - 3 - 2) (drop 2 answer) ≡ printedOf n answer
+  pub status-and-data : (tail : ℕ) → tail ≡ tailSize f → n ≤ length answer → 2 + tail ≤ n → take (n - tail - 2) (drop 2 answer) ≡ printedOf f n answer
   unfolding printedOf
-  status-and-data h k = let z : n - 3 - 2 ≡ n - 5 = omega arith in rw (le-leb n (length answer) h, z)
+  status-and-data tail e h k = let z : n - tail - 2 ≡ n - (2 + tail) = omega arith in rw (le-leb n (length answer) h, ← e, z)
 
 -- on the way to a line's end: what is left of it begins here
 pub record Along (t : List ℕ) (from i : ℕ) : Type 0 where

@@ -17,7 +17,7 @@ use Rattle.operand.specs.declared.Number.the-variants as N
 use Rattle.operand.specs.Number.{numberOf}
 use Rattle.desk.specs.declared.Desk.{Desk}
 use Rattle.desk.specs.declared.Quantity.{Quantity}
-use Rattle.desk.specs.declared.Quantity.the-variants.{Ticks, Run, Lend, New, Tip, Press, Minus}
+use Rattle.desk.specs.declared.Quantity.the-variants.{Ticks, Run, Lend, New, Oem, Tip, Press, Minus}
 use Rattle.desk.specs.declared.Word.{Word}
 use Rattle.desk.specs.declared.Word.the-variants as W
 use Rattle.desk.specs.declared.Asked.{Asked}
@@ -26,7 +26,7 @@ use Rattle.desk.specs.declared.Count.{Count}
 use Rattle.desk.specs.declared.Count.the-variants.{Is, Not}
 use Rattle.desk.specs.Counts.{wholeOf, countOf}
 use Rattle.desk.specs.Hex.{paired}
-use Rattle.desk.specs.Desk.{spelled, begins, numberWord, wordOf, knows, leastOf, mostOf, allowed, ranged, behind, formOf}
+use Rattle.desk.specs.Desk.{spelled, begins, senseWord, numberWord, wordOf, knows, leastOf, mostOf, allowed, ranged, behind, formOf}
 
 -- a whole number
 module _ (n : Number) where
@@ -151,6 +151,13 @@ split (a ∷ word) (b ∷ t) e =
 abbrev pub Headed : List ℕ → Word → Type 0
 Headed t w = t ≡ spelled w ++ drop (length (spelled w)) t
 
+sense-heads : (t : List ℕ) → Headed t (senseWord t)
+unfolding senseWord
+sense-heads t =
+    by (Headed t) (begins (spelled (W.Number Tip)) t) (split _ t) (λ _.
+    by (Headed t) (begins (spelled (W.Number Minus)) t) (split _ t) (λ _.
+    by (Headed t) (begins (spelled (W.Number Press)) t) (split _ t) (λ _. refl)))
+
 number-heads : (t : List ℕ) → Headed t (numberWord t)
 unfolding numberWord
 number-heads t =
@@ -158,9 +165,7 @@ number-heads t =
     by (Headed t) (begins (spelled (W.Number Run)) t) (split _ t) (λ _.
     by (Headed t) (begins (spelled (W.Number Lend)) t) (split _ t) (λ _.
     by (Headed t) (begins (spelled (W.Number New)) t) (split _ t) (λ _.
-    by (Headed t) (begins (spelled (W.Number Tip)) t) (split _ t) (λ _.
-    by (Headed t) (begins (spelled (W.Number Minus)) t) (split _ t) (λ _.
-    by (Headed t) (begins (spelled (W.Number Press)) t) (split _ t) (λ _. refl)))))))
+    by (Headed t) (begins (spelled (W.Number Oem)) t) (split _ t) (λ _. sense-heads t)))))
 
 pub word-heads : (t : List ℕ) → Headed t (wordOf t)
 unfolding wordOf

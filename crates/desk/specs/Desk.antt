@@ -7,11 +7,13 @@ use lib.Dec.{leb, eqb}
 use lib.ListN.{length, take, drop}
 use Rattle.basics.specs.Choice.{if_then_else_}
 use Rattle.basics.specs.Bytes.{chars, every}
-use Rattle.line.specs.Wire.{printable}
+use Rattle.line.specs.declared.Framing.{Framing}
+use Rattle.line.specs.declared.Framing.the-variants as F
+use Rattle.line.specs.Bytes.{printable}
 use Rattle.desk.specs.declared.Desk.{Desk}
 use Rattle.desk.specs.declared.Desk.the-variants.{Bench, Rig}
 use Rattle.desk.specs.declared.Quantity.{Quantity}
-use Rattle.desk.specs.declared.Quantity.the-variants.{Ticks, Run, Lend, New, Tip, Press, Minus}
+use Rattle.desk.specs.declared.Quantity.the-variants.{Ticks, Run, Lend, New, Oem, Tip, Press, Minus}
 use Rattle.desk.specs.declared.Word.{Word}
 use Rattle.desk.specs.declared.Word.the-variants as W
 use Rattle.desk.specs.declared.Asked.{Asked}
@@ -28,6 +30,7 @@ spelled (W.Number Ticks) = chars "t "
 spelled (W.Number Run) = chars "run "
 spelled (W.Number Lend) = chars "lend "
 spelled (W.Number New) = chars "new "
+spelled (W.Number Oem) = chars "oem "
 spelled (W.Number Tip) = chars "tip "
 spelled (W.Number Press) = chars "press "
 spelled (W.Number Minus) = chars "press -"
@@ -41,16 +44,21 @@ begins (a ∷ w) [] = false
 begins (a ∷ w) (b ∷ t) = eqb a b && begins w t
 
 -- none of the words begins with another, but `press -` with `press `, and so it is tested before it
+unfoldable pub senseWord : List ℕ → Word
+senseWord t =
+    if begins (spelled (W.Number Tip)) t then W.Number Tip
+    else if begins (spelled (W.Number Minus)) t then W.Number Minus
+    else if begins (spelled (W.Number Press)) t then W.Number Press
+    else W.Other
+
 unfoldable pub numberWord : List ℕ → Word
 numberWord t =
     if begins (spelled (W.Number Ticks)) t then W.Number Ticks
     else if begins (spelled (W.Number Run)) t then W.Number Run
     else if begins (spelled (W.Number Lend)) t then W.Number Lend
     else if begins (spelled (W.Number New)) t then W.Number New
-    else if begins (spelled (W.Number Tip)) t then W.Number Tip
-    else if begins (spelled (W.Number Minus)) t then W.Number Minus
-    else if begins (spelled (W.Number Press)) t then W.Number Press
-    else W.Other
+    else if begins (spelled (W.Number Oem)) t then W.Number Oem
+    else senseWord t
 
 unfoldable pub wordOf : List ℕ → Word
 wordOf t =
@@ -66,6 +74,7 @@ knows Bench (W.Number Ticks) = true
 knows Bench (W.Number Run) = false
 knows Bench (W.Number Lend) = false
 knows Bench (W.Number New) = false
+knows Bench (W.Number Oem) = false
 knows Bench (W.Number Tip) = false
 knows Bench (W.Number Press) = false
 knows Bench (W.Number Minus) = false
@@ -80,6 +89,7 @@ leastOf Ticks = 1
 leastOf Run = 0
 leastOf Lend = 0
 leastOf New = 0
+leastOf Oem = 0
 leastOf Tip = 0
 leastOf Press = 0
 leastOf Minus = 1
@@ -89,6 +99,7 @@ mostOf Ticks = 60000
 mostOf Run = 999999
 mostOf Lend = 64
 mostOf New = 999999
+mostOf Oem = 999999
 mostOf Tip = 1
 mostOf Press = 40000
 mostOf Minus = 40000
@@ -115,9 +126,13 @@ formOf desk t = let w = wordOf t in if knows desk w then behind w (drop (length 
 unfoldable pub askedOf : Desk → List ℕ → Asked
 askedOf desk t = if leb (length t) 400 && every printable t then formOf desk t else Wrong
 
--- "It prints, for a frame, status and data": an answer of n bytes without its first two and its last three
-unfoldable pub printedOf : ℕ → List ℕ → List ℕ
-printedOf n answer = if leb n (length answer) then take (n - 5) (drop 2 answer) else []
+-- "It prints, for a frame, status and data": an answer of n bytes without its first two and its last ones: 03h, CR and LF, or 03h and the sum
+unfoldable pub tailSize : Framing → ℕ
+tailSize F.Dt = 3
+tailSize F.Oem = 2
+
+unfoldable pub printedOf : Framing → ℕ → List ℕ → List ℕ
+printedOf f n answer = if leb n (length answer) then take (n - (2 + tailSize f)) (drop 2 answer) else []
 
 -- "It reads lines, ended by LF or the input's end": the line that a text begins with
 unfoldable pub lineOf : List ℕ → List ℕ

@@ -6,7 +6,7 @@ use mathlib.Core.List.{List, _++_}
 use lib.Dec.{ltb}
 use lib.ListN.{length, getD}
 use Rattle.basics.specs.Bytes.{chars, zeroDigit, digit, every, valueOf}
-use Rattle.line.specs.Wire.{printable}
+use Rattle.line.specs.Bytes.{printable}
 use Rattle.desk.specs.declared.Desk.{Desk}
 use Rattle.desk.specs.declared.Quantity.{Quantity}
 use Rattle.desk.specs.declared.Word.the-variants.{Number, Stop, Raw}
@@ -32,7 +32,7 @@ pub record Counts (digits : List ℕ) (n : ℕ) : Type 0 where
   pub no-leading-zero : getD digits 0 0 ≡ zeroDigit → length digits ≡ 1
   pub number : valueOf digits ≡ n
 
--- `t n`, at both; `run n`, `lend n`, `new n`, `tip n`, `press n`, n from 0 on, and `press -n`, n from 1 on, at the rig: a number in its range
+-- `t n`, at both; `run n`, `lend n`, `new n`, `oem n`, `tip n`, `press n`, n from 0 on, and `press -n`, n from 1 on, at the rig: a number in its range
 pub record Gives (desk : Desk) (t : List ℕ) (q : Quantity) (n : ℕ) : Type 0 where
   pub known : knows desk (Number q) ≡ true
   pub clean : Clean t

@@ -1,13 +1,14 @@
 // Lines of the bench program and of the training rig: what a line asks, what is printed of an answer, where a line ends.
 pub mod hex;
 
+use line::Framing;
 use operand::Number;
 ghost use mathlib.Core.Path.{_≡_};
-ghost use Rattle.line.specs.Wire.{printable};
+ghost use Rattle.line.specs.Bytes.{printable};
 ghost use Rattle.basics.specs.Bytes.{every};
 ghost use lib.ListN.{length};
 ghost use Rattle.desk.specs.Counts.{wholeOf, countOf};
-ghost use Rattle.desk.specs.Desk.{spelled, begins, numberWord, wordOf, knows, leastOf, mostOf, allowed, ranged, behind, formOf, askedOf, printedOf, LineEnd};
+ghost use Rattle.desk.specs.Desk.{spelled, begins, senseWord, numberWord, wordOf, knows, leastOf, mostOf, allowed, ranged, behind, formOf, askedOf, tailSize, printedOf, LineEnd};
 
 // Whose lines: the bench program's, or the rig's, which are those and more.
 pub enum Desk {
@@ -15,12 +16,13 @@ pub enum Desk {
     Rig,
 }
 
-// What a number in a line counts: ticks that pass, ticks that a run may take, bytes of the answer buffers, an address, a tip, a pressure, a pressure below 0.
+// What a number in a line counts: ticks that pass, ticks that a run may take, bytes of the answer buffers, an address in DT framing, one in OEM framing, a tip, a pressure, a pressure below 0.
 pub enum Quantity {
     Ticks,
     Run,
     Lend,
     New,
+    Oem,
     Tip,
     Press,
     Minus,
@@ -81,6 +83,22 @@ fn starts(t: &[u8], word: &[u8]) -> bool
     true
 }
 
+// Of the words that a number follows, those for what a host senses.
+fn sense_word(t: &[u8]) -> Word
+    ensures { λ r. ⌜ r ≡ senseWord (now (t .entry)) ⌝ }
+{
+    if starts(t, b"tip ") {
+        return Word::Number(Quantity::Tip);
+    }
+    if starts(t, b"press -") {
+        return Word::Number(Quantity::Minus);
+    }
+    if starts(t, b"press ") {
+        return Word::Number(Quantity::Press);
+    }
+    Word::Other
+}
+
 // The words that a number follows.
 fn number_word(t: &[u8]) -> Word
     ensures { λ r. ⌜ r ≡ numberWord (now (t .entry)) ⌝ }
@@ -97,16 +115,10 @@ fn number_word(t: &[u8]) -> Word
     if starts(t, b"new ") {
         return Word::Number(Quantity::New);
     }
-    if starts(t, b"tip ") {
-        return Word::Number(Quantity::Tip);
+    if starts(t, b"oem ") {
+        return Word::Number(Quantity::Oem);
     }
-    if starts(t, b"press -") {
-        return Word::Number(Quantity::Minus);
-    }
-    if starts(t, b"press ") {
-        return Word::Number(Quantity::Press);
-    }
-    Word::Other
+    sense_word(t)
 }
 
 fn word_of(t: &[u8]) -> Word
@@ -133,6 +145,7 @@ impl Quantity {
             Quantity::Run => 4,
             Quantity::Lend => 5,
             Quantity::New => 4,
+            Quantity::Oem => 4,
             Quantity::Tip => 4,
             Quantity::Press => 6,
             Quantity::Minus => 7,
@@ -147,6 +160,7 @@ impl Quantity {
             Quantity::Run => false,
             Quantity::Lend => false,
             Quantity::New => false,
+            Quantity::Oem => false,
             Quantity::Tip => false,
             Quantity::Press => false,
             Quantity::Minus => false,
@@ -161,6 +175,7 @@ impl Quantity {
             Quantity::Run => 0,
             Quantity::Lend => 0,
             Quantity::New => 0,
+            Quantity::Oem => 0,
             Quantity::Tip => 0,
             Quantity::Press => 0,
             Quantity::Minus => 1,
@@ -175,6 +190,7 @@ impl Quantity {
             Quantity::Run => 999_999,
             Quantity::Lend => 64,
             Quantity::New => 999_999,
+            Quantity::Oem => 999_999,
             Quantity::Tip => 1,
             Quantity::Press => 40_000,
             Quantity::Minus => 40_000,
@@ -325,17 +341,28 @@ pub fn read(desk: Desk, t: &[u8]) -> Asked
     Asked::Wrong
 }
 
-// What is printed of an answer of n bytes: its status byte and its data.
-pub fn printed(n: usize, answer: &[u8]) -> &[u8]
-    ensures { λ r. ⌜ now r ≡ printedOf n (now (answer .entry)) ⌝ }
+// How many bytes stand behind an answer's data.
+fn tail(framing: Framing) -> usize
+    ensures { λ r. ⌜ r ≡ tailSize framing ⌝ }
 {
+    match framing {
+        Framing::Dt => 3,
+        Framing::Oem => 2,
+    }
+}
+
+// What is printed of an answer of n bytes: its status byte and its data.
+pub fn printed(framing: Framing, n: usize, answer: &[u8]) -> &[u8]
+    ensures { λ r. ⌜ now r ≡ printedOf framing n (now (answer .entry)) ⌝ }
+{
+    let tail = tail(framing);
     if answer.len() < n {
         return &answer[..0];
     }
-    if n < 5 {
+    if n < 2 + tail {
         return &answer[..0];
     }
-    let end = n - 3;
+    let end = n - tail;
     &answer[2..end]
 }
 

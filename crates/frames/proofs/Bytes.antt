@@ -6,7 +6,7 @@ use borrow.Author.Tests.{le-ltb, ne-eqb}
 use lib.ListN.{length, take, replicate}
 use Rattle.line.specs.declared.Deed.{Deed}
 use Rattle.line.specs.declared.Deed.the-variants as W
-use Rattle.line.specs.Wire.{hearOf, keepOf, Received, hears, feed, completes, framesOf}
+use Rattle.line.specs.Wire.{framingOf, hearOf, keepOf, Received, hears, feed, completes, framesOf}
 use Rattle.motion.specs.Events.{quiet}
 use Rattle.pipettor.specs.declared.Controller.{Controller}
 use Rattle.pipettor.specs.declared.Said.the-variants.{Silent}
@@ -69,7 +69,7 @@ module _ (k : Controller) (b : ℕ) (buf : List ℕ) (long : 32 ≤ length buf) 
       let frame = keepOf (k .frame) (h .deed) b in
       let got = gotOf ours (h .deed) frame in
       let squeezed = squeezedOf ours (h .deed) frame in
-      let e = dealtOf got (take (sizeOf got) squeezed) (k .address) (k .device) buf in
+      let e = dealtOf (framingOf (k .line)) got (take (sizeOf got) squeezed) (k .address) (k .device) buf in
       record {
         next = after (reply (record { address = k .address; line = h .line; frame = squeezed; device = e .next .device }) (e .next .said)) (e .next .buffer);
         events = e .events;

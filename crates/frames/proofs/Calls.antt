@@ -11,6 +11,7 @@ use lib.ListN.{length}
 use Rattle.basics.specs.Choice.{if_then_else_}
 use Rattle.basics.specs.Exactly.{Exactly}
 use Rattle.basics.proofs.Choice.{by}
+use Rattle.line.specs.declared.Framing.{Framing}
 use Rattle.motion.specs.Events.{Turn, quiet}
 use Rattle.machine.specs.declared.Used.the-variants.{S3}
 use Rattle.machine.specs.declared.Ran as Machine
@@ -28,17 +29,17 @@ use Rattle.pipettor.specs.Byte.{After, after, reply, saidOf, dealtOf, heardOf, 
 use Rattle.pipettor.specs.Controller.{runOf}
 
 -- what is heard is never answered with S1
-never-s1 : {G : Type 0} (o : Outcome) (ready : Bool) → saidOf o ready ≡ S1 → G
+never-s1 : {G : Type 0} (f : Framing) (o : Outcome) (ready : Bool) → saidOf f o ready ≡ S1 → G
 unfolding saidOf
-never-s1 Mute ready e = let z : _≡_ {A = ℕ} 0 1 = cc in absurd (omega arith)
-never-s1 (Tell report code) ready e = let z : _≡_ {A = ℕ} 0 1 = cc in absurd (omega arith)
+never-s1 f Mute ready e = let z : _≡_ {A = ℕ} 0 1 = cc in absurd (omega arith)
+never-s1 f (Tell report code) ready e = let z : _≡_ {A = ℕ} 0 1 = cc in absurd (omega arith)
 
 -- "S1: answer buffer lent is shorter than 32 bytes: controller and buffer unchanged"
 module _ (k : Controller) (b : ℕ) (buf : List ℕ) where
   pub a-short-buffer-is-s1 : Exactly (byteOf k b buf .next .reply .said ≡ S1) (length buf < 32)
   unfolding byteOf heardOf dealtOf
   a-short-buffer-is-s1 = record {
-    only = by (λ (t : Turn After). t .next .reply .said ≡ S1 → length buf < 32) (ltb (length buf) 32) (λ h e. ltb-true (length buf) 32 h) (λ h e. never-s1 _ _ e);
+    only = by (λ (t : Turn After). t .next .reply .said ≡ S1 → length buf < 32) (ltb (length buf) 32) (λ h e. ltb-true (length buf) 32 h) (λ h e. never-s1 _ _ _ e);
     always = λ h. rw (lt-ltb (length buf) 32 h);
   }
 

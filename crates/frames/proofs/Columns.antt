@@ -17,6 +17,7 @@ use Rattle.text.specs.declared.Data.the-variants as D
 use Rattle.text.specs.Data.{spaceless, receivedOf}
 use Rattle.text.proofs.Squeezing.{spaceless-short}
 use Rattle.text.proofs.Strings.{body-short}
+use Rattle.line.specs.declared.Framing.{Framing}
 use Rattle.buffer.specs.declared.course.State.{State}
 use Rattle.buffer.specs.declared.course.State.the-variants.{Empty, Stored, Running, Stopped, Done}
 use Rattle.buffer.specs.declared.course.Course.{Course}
@@ -42,8 +43,8 @@ unfolding actedOf
 no-column o Fine n c = refl
 no-column o (Refused why) n c = refl
 
-module _ (a : Address) (d : Device) (buf added : List ℕ) where
-  left : (x : Data) → dealtOf (G.Data x) added a d buf .next .device .core .course .misread ≡ columnAfter x (d .core .course .misread)
+module _ (a : Address) (d : Device) (f : Framing) (buf added : List ℕ) where
+  left : (x : Data) → dealtOf f (G.Data x) added a d buf .next .device .core .course .misread ≡ columnAfter x (d .core .course .misread)
   unfolding dealtOf taskOf performedOf actOf
   left (D.Report q) = refl
   left D.WrongReport = refl
@@ -62,13 +63,13 @@ within ds place b u string up =
 column-of : (place : ℕ) → place ≤ 320 → columnAt place ≡ place + 1
 column-of place h = rw (le-ltb 320 place h)
 
-module _ (ds : List ℕ) (a : Address) (d : Device) (buf : List ℕ) where
+module _ (ds : List ℕ) (a : Address) (d : Device) (f : Framing) (buf : List ℕ) where
   abbrev column : ℕ
-  column = exchangeOf ds a d buf .next .device .core .course .misread
+  column = exchangeOf f ds a d buf .next .device .core .course .misread
 
   pub the-column-a-frame-leaves : column ≡ columnAfter (receivedOf ds) (d .core .course .misread)
   unfolding exchangeOf
-  the-column-a-frame-leaves = left a d buf (addedOf ds) (receivedOf ds)
+  the-column-a-frame-leaves = left a d f buf (addedOf ds) (receivedOf ds)
 
   by-report : (x : Data) → isReport x ≡ true → columnAfter x (d .core .course .misread) ≡ d .core .course .misread
   by-report (D.Report q) h = refl
@@ -93,7 +94,7 @@ module _ (ds : List ℕ) (a : Address) (d : Device) (buf : List ℕ) where
       absurd (no-operand place read (r .string) (r .judged))
   by-another D.TooLong is h no-letter no-operand = refl
 
-  pub what-a-column-means : Columned ds a d (exchangeOf ds a d buf)
+  pub what-a-column-means : Columned ds a d (exchangeOf f ds a d buf)
   what-a-column-means =
       record {
         at-the-wrong-letter = λ place string l.

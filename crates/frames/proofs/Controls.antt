@@ -11,6 +11,7 @@ use Rattle.text.specs.declared.Data.{Data}
 use Rattle.text.specs.declared.Data.the-variants as D
 use Rattle.text.specs.Data.{spaceless, controlOf, dataOf, receivedOf}
 use Rattle.line.specs.declared.Report.the-variants.{Character}
+use Rattle.line.specs.declared.Framing.{Framing}
 use Rattle.line.specs.Answer.{statusOf, answerOf}
 use Rattle.motion.specs.declared.Activity.the-variants.{Between}
 use Rattle.motion.specs.Events.{Turn}
@@ -36,10 +37,10 @@ use Rattle.pipettor.specs.Byte.{actionOf, stringAction, taskOf, performedOf, ou
 use Rattle.reports.specs.Reports.{tellOf}
 use Rattle.frames.specs.Frame.{addedOf, exchangeOf}
 
-module _ (a : Address) (d : Device) (buf : List ℕ) where
+module _ (a : Address) (d : Device) (f : Framing) (buf : List ℕ) where
   -- the core that a frame with these data leaves
   abbrev left : List ℕ → Core
-  left ds = exchangeOf ds a d buf .next .device .core
+  left ds = exchangeOf f ds a d buf .next .device .core
 
   -- "X: from Done, runs the text again"
   pub X-in-Done-runs-the-text-again : d .core .course .state ≡ Done → left (88 ∷ []) ≡ core (d .core .body) (courseOf 0 (d .core .course .len) noLoops (Running Between) 0 0)
@@ -92,12 +93,12 @@ module _ (a : Address) (d : Device) (buf : List ℕ) where
     body : e .next .device .core .body ≡ d .core .body
     events : e .events ≡ []
 
-  acted-leaves : (x : Action) (added : List ℕ) → NoStop x → (y : Data) → taskOf (G.Data y) ≡ T.Act x → Untouched (dealtOf (G.Data y) added a d buf)
+  acted-leaves : (x : Action) (added : List ℕ) → NoStop x → (y : Data) → taskOf (G.Data y) ≡ T.Act x → Untouched (dealtOf f (G.Data y) added a d buf)
   unfolding dealtOf performedOf
   acted-leaves x added h y is =
       record { body = rw is (strings-R-X-and-C-leave-the-body x added d h); events = rw is (strings-R-X-and-C-add-nothing-to-the-history x added d h) }
 
-  dealt-leaves : (x : Data) (added : List ℕ) → (x ≡ D.Control Stop → ⊥) → (x ≡ D.Control Reset → ⊥) → Untouched (dealtOf (G.Data x) added a d buf)
+  dealt-leaves : (x : Data) (added : List ℕ) → (x ≡ D.Control Stop → ⊥) → (x ≡ D.Control Reset → ⊥) → Untouched (dealtOf f (G.Data x) added a d buf)
   unfolding dealtOf taskOf performedOf
   dealt-leaves (D.Report q) added p r = record { body = refl; events = refl }
   dealt-leaves D.WrongReport added p r = record { body = refl; events = refl }
@@ -116,11 +117,11 @@ module _ (a : Address) (d : Device) (buf : List ℕ) where
     unfolding exchangeOf
     every-frame-but-T-and-reset-leaves-the-body = dealt-leaves (receivedOf ds) (addedOf ds) no-stop no-reset .body
 
-    pub every-frame-but-T-and-reset-adds-nothing : exchangeOf ds a d buf .events ≡ []
+    pub every-frame-but-T-and-reset-adds-nothing : exchangeOf f ds a d buf .events ≡ []
     unfolding exchangeOf
     every-frame-but-T-and-reset-adds-nothing = dealt-leaves (receivedOf ds) (addedOf ds) no-stop no-reset .events
 
   -- "f the address", whatever it is
-  pub f-says-the-address : exchangeOf (102 ∷ []) a d buf .next .buffer ≡ over (answerOf (statusOf (readyOf (d .core)) (d .core .course .error)) (Character (letterOf a))) 0 buf
+  pub f-says-the-address : exchangeOf f (102 ∷ []) a d buf .next .buffer ≡ over (answerOf f (statusOf (readyOf (d .core)) (d .core .course .error)) (Character (letterOf a))) 0 buf
   unfolding exchangeOf dealtOf receivedOf spaceless dataOf taskOf performedOf outcomeOf writtenOf tellOf
   f-says-the-address = refl

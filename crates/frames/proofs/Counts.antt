@@ -12,6 +12,7 @@ use Rattle.basics.proofs.Choice.{by}
 use Rattle.text.specs.declared.Data.{Data}
 use Rattle.text.specs.declared.Data.the-variants as D
 use Rattle.text.specs.Data.{spaceless, dataOf, receivedOf}
+use Rattle.line.specs.declared.Framing.{Framing}
 use Rattle.machine.specs.declared.Device.{Device}
 use Rattle.pipettor.specs.declared.address.Address.{Address}
 use Rattle.frames.specs.Refused.{refusalOf, isReport, reportFirst, too-many-bytes}
@@ -20,9 +21,9 @@ use Rattle.frames.proofs.Sorts.{read-as-said, read-is-not-too-many, rea
 use Rattle.frames.proofs.Refusals.{too-much-now-is-15, a-refused-frame-leaves-the-error-only}
 
 -- a number that isn't 0 is a refusal
-pub refuses : (code : ℕ) (ds : List ℕ) (a : Address) (d : Device) (buf : List ℕ) → (code ≡ 0 → ⊥) → refusalOf ds a d ≡ code → RefusesWith code ds a d buf
-refuses code ds a d buf h e =
-    record { number = e; left = rw e at (a-refused-frame-leaves-the-error-only ds a d buf (λ z. h (sym e ∙ z))) }
+pub refuses : (code : ℕ) (ds : List ℕ) (a : Address) (d : Device) (f : Framing) (buf : List ℕ) → (code ≡ 0 → ⊥) → refusalOf ds a d ≡ code → RefusesWith f code ds a d buf
+refuses code ds a d f buf h e =
+    record { number = e; left = rw e at (a-refused-frame-leaves-the-error-only ds a d f buf (λ z. h (sym e ∙ z))) }
 
 -- "more than 320 data bytes, spaces counted"
 module _ (ds : List ℕ) where
@@ -51,5 +52,5 @@ module _ (ds : List ℕ) where
   pub too-many-bytes-exactly-above-320 : Exactly (receivedOf ds ≡ D.TooLong) (320 < length ds)
   too-many-bytes-exactly-above-320 = record { only = only-many; always = too-many }
 
-  pub more-than-320-bytes-are-refused : (a : Address) (d : Device) (buf : List ℕ) → 320 < length ds → RefusesWith 15 ds a d buf
-  more-than-320-bytes-are-refused a d buf h = refuses 15 ds a d buf (λ e. omega arith) (too-much-now-is-15 ds a d .always (rw (too-many h) too-many-bytes))
+  pub more-than-320-bytes-are-refused : (a : Address) (d : Device) (f : Framing) (buf : List ℕ) → 320 < length ds → RefusesWith f 15 ds a d buf
+  more-than-320-bytes-are-refused a d f buf h = refuses 15 ds a d f buf (λ e. omega arith) (too-much-now-is-15 ds a d .always (rw (too-many h) too-many-bytes))

@@ -19,6 +19,7 @@ use Rattle.text.specs.declared.Control.the-variants.{Run, Stop, Again, Clear, R
 use Rattle.text.specs.declared.Data.{Data}
 use Rattle.text.specs.declared.Data.the-variants as D
 use Rattle.text.specs.Data.{receivedOf}
+use Rattle.line.specs.declared.Framing.{Framing}
 use Rattle.line.specs.Answer as Line
 use Rattle.line.specs.Answer.{statusOf}
 use Rattle.motion.specs.Events.{Turn}
@@ -46,16 +47,16 @@ use Rattle.frames.proofs.Strings.{a-string-is-refused-exactly-at-its-fi
 use Rattle.frames.specs.Refused.{toldNumber, toldReport, numberFor, refusalOf, isReport, refusedCore, Replied, Refused, Unchanged, Known, WrongLetter, WrongNumber, operand, report, report-number, loops-of-control, loops-of-text, TooMuchNow, too-many-bytes, control, text, NothingNow, nothing}
 
 -- an answered report carries the last error, and one that is refused 3
-module _ (error : ℕ) (ready : Bool) where
+module _ (f : Framing) (error : ℕ) (ready : Bool) where
   abbrev told : Told → List ℕ
-  told t = Line.answerOf (statusOf ready (if eqb (toldNumber t) 0 then error else toldNumber t)) (toldReport t)
+  told t = Line.answerOf f (statusOf ready (if eqb (toldNumber t) 0 then error else toldNumber t)) (toldReport t)
 
-  told-said : (t : Told) → saidOf (toldCode t error) ready ≡ Answer (length (told t))
+  told-said : (t : Told) → saidOf f (toldCode t error) ready ≡ Answer (length (told t))
   unfolding saidOf
   told-said (Says r) = refl
   told-said No = refl
 
-  told-written : (t : Told) (buf : List ℕ) → writtenOf (toldCode t error) ready buf ≡ over (told t) 0 buf
+  told-written : (t : Told) (buf : List ℕ) → writtenOf f (toldCode t error) ready buf ≡ over (told t) 0 buf
   unfolding writtenOf
   told-written (Says r) buf = refl
   told-written No buf = refl
@@ -114,15 +115,15 @@ module _ (added : List ℕ) (a : Address) (d : Device) where
   abbrev number : Data → ℕ
   number x = numberFor x added a d
 
-  module _ (buf : List ℕ) where
+  module _ (f : Framing) (buf : List ℕ) where
     abbrev does : Data → Turn Exchange
-    does x = dealtOf (G.Data x) added a d buf
+    does x = dealtOf f (G.Data x) added a d buf
 
-    replied : (x : Data) → Replied x (number x) a d buf (does x)
+    replied : (x : Data) → Replied f x (number x) a d buf (does x)
     unfolding dealtOf numberFor taskOf performedOf actOf outcomeOf saidOf writtenOf
     replied (D.Report q) = record {
-      said = told-said (d .core .course .error) (readyOf (d .core)) (toldOf q a (d .tip) (d .core));
-      buffer = told-written (d .core .course .error) (readyOf (d .core)) (toldOf q a (d .tip) (d .core)) buf;
+      said = told-said f (d .core .course .error) (readyOf (d .core)) (toldOf q a (d .tip) (d .core));
+      buffer = told-written f (d .core .course .error) (readyOf (d .core)) (toldOf q a (d .tip) (d .core)) buf;
     }
     replied D.WrongReport = record { said = refl; buffer = refl }
     replied (D.Control c) = record { said = refl; buffer = refl }
@@ -285,23 +286,23 @@ module _ (ds : List ℕ) (a : Address) (d : Device) where
       go (inr (inr (inr (inl h)))) = omega arith
       go (inr (inr (inr (inr h)))) = omega arith
 
-  module _ (buf : List ℕ) where
+  module _ (f : Framing) (buf : List ℕ) where
     -- every frame is answered, with its status: the last error, 0 or its own number
-    pub every-frame-is-answered : Replied (receivedOf ds) (refusalOf ds a d) a d buf (exchangeOf ds a d buf)
+    pub every-frame-is-answered : Replied f (receivedOf ds) (refusalOf ds a d) a d buf (exchangeOf f ds a d buf)
     unfolding refusalOf exchangeOf
-    every-frame-is-answered = replied (addedOf ds) a d buf (receivedOf ds)
+    every-frame-is-answered = replied (addedOf ds) a d f buf (receivedOf ds)
 
     -- a refusal leaves the last error only, and a refused report nothing
-    pub a-refused-frame-leaves-the-error-only : (refusalOf ds a d ≡ 0 → ⊥) → Refused (receivedOf ds) (refusalOf ds a d) d (exchangeOf ds a d buf)
+    pub a-refused-frame-leaves-the-error-only : (refusalOf ds a d ≡ 0 → ⊥) → Refused (receivedOf ds) (refusalOf ds a d) d (exchangeOf f ds a d buf)
     unfolding refusalOf exchangeOf
-    a-refused-frame-leaves-the-error-only = left (addedOf ds) a d buf (receivedOf ds)
+    a-refused-frame-leaves-the-error-only = left (addedOf ds) a d f buf (receivedOf ds)
 
     -- "An accepted frame that isn't a report sets it to 0"
-    pub an-accepted-frame-clears-the-error : isReport (receivedOf ds) ≡ false → refusalOf ds a d ≡ 0 → exchangeOf ds a d buf .next .device .core .course .error ≡ 0
+    pub an-accepted-frame-clears-the-error : isReport (receivedOf ds) ≡ false → refusalOf ds a d ≡ 0 → exchangeOf f ds a d buf .next .device .core .course .error ≡ 0
     unfolding refusalOf exchangeOf
-    an-accepted-frame-clears-the-error = cleared (addedOf ds) a d buf (receivedOf ds)
+    an-accepted-frame-clears-the-error = cleared (addedOf ds) a d f buf (receivedOf ds)
 
     -- "Reports never change it"
-    pub reports-leave-everything : isReport (receivedOf ds) ≡ true → Unchanged d (exchangeOf ds a d buf)
+    pub reports-leave-everything : isReport (receivedOf ds) ≡ true → Unchanged d (exchangeOf f ds a d buf)
     unfolding exchangeOf
-    reports-leave-everything = untouched (addedOf ds) a d buf (receivedOf ds)
+    reports-leave-everything = untouched (addedOf ds) a d f buf (receivedOf ds)

@@ -14,6 +14,7 @@ use Rattle.text.specs.declared.Data.{Data}
 use Rattle.text.specs.declared.Data.the-variants as D
 use Rattle.text.specs.Data.{spaceless, body, dataOf, receivedOf}
 use Rattle.text.proofs.Strings.{a-text-stands-in-front}
+use Rattle.line.specs.declared.Framing.{Framing}
 use Rattle.buffer.specs.declared.course.State.{State}
 use Rattle.buffer.specs.Course.{begun, waiting}
 use Rattle.machine.specs.declared.Device.{Device}
@@ -113,7 +114,7 @@ module _ (ds : List ℕ) (n : ℕ) (run : Bool) (is : receivedOf ds ≡ D.Text n
   pub the-size-of-a-text : n ≡ length (body (spaceless ds))
   the-size-of-a-text = sym added-length ∙ ap (λ (t : List ℕ). length t) added-body
 
-  module _ (a : Address) (d : Device) (buf : List ℕ) where
+  module _ (a : Address) (d : Device) (f : Framing) (buf : List ℕ) where
     abbrev order : Order
     order = orderOf (stringAction run) (d .core .course .state)
 
@@ -121,7 +122,7 @@ module _ (ds : List ℕ) (n : ℕ) (run : Bool) (is : receivedOf ds ≡ D.Text n
     unfolding refusalOf numberFor
     text-number = rw is
 
-    text-device : verdictOf order (storedIn d) (addedOf ds) ≡ Fine → exchangeOf ds a d buf .next .device ≡ device (storedBy order Fine (d .core .course .len) (addedOf ds) (d .text)) (d .tip) (actedOf order Fine (length (addedOf ds)) (d .core) .next)
+    text-device : verdictOf order (storedIn d) (addedOf ds) ≡ Fine → exchangeOf f ds a d buf .next .device ≡ device (storedBy order Fine (d .core .course .len) (addedOf ds) (d .text)) (d .tip) (actedOf order Fine (length (addedOf ds)) (d .core) .next)
     unfolding exchangeOf dealtOf taskOf performedOf actOf
     text-device e = rw (is, e)
 
@@ -131,7 +132,7 @@ module _ (ds : List ℕ) (n : ℕ) (run : Bool) (is : receivedOf ds ≡ D.Text n
 
       -- "Text holds at most 256 characters": the whole of it is stored, and nothing else
       pub a-text-of-up-to-256-is-stored-whole :
-          length (wholeOf ds d) ≤ 256 → LoopsRight run (frontIn d) (body (spaceless ds)) → Accepts (wholeOf ds d) ds a d buf
+          length (wholeOf ds d) ≤ 256 → LoopsRight run (frontIn d) (body (spaceless ds)) → Accepts f (wholeOf ds d) ds a d buf
       a-text-of-up-to-256-is-stored-whole h loops =
           let code = taken run (addedOf ds) d len long order (frontIn d) way (rw added-body h) (rw added-body loops) in
           record {
@@ -140,6 +141,6 @@ module _ (ds : List ℕ) (n : ℕ) (run : Bool) (is : receivedOf ds ≡ D.Text n
           }
 
       -- and one character more is refused, the device keeping its text
-      pub a-text-of-more-than-256-is-refused : 256 < length (wholeOf ds d) → RefusesWith 15 ds a d buf
+      pub a-text-of-more-than-256-is-refused : 256 < length (wholeOf ds d) → RefusesWith f 15 ds a d buf
       a-text-of-more-than-256-is-refused h =
-          refuses 15 ds a d buf (λ e. omega arith) (text-number ∙ ap verdictNumber (refused run (addedOf ds) d len long order (frontIn d) way (rw added-body h)))
+          refuses 15 ds a d f buf (λ e. omega arith) (text-number ∙ ap verdictNumber (refused run (addedOf ds) d len long order (frontIn d) way (rw added-body h)))

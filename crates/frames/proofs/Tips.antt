@@ -10,7 +10,8 @@ use Rattle.basics.proofs.Choice.{by}
 use Rattle.text.specs.declared.Question.the-variants as Q
 use Rattle.text.specs.declared.Data.the-variants as D
 use Rattle.command.specs.declared.refusal.Verdict.{Verdict}
-use Rattle.line.specs.Wire.{hearOf, keepOf}
+use Rattle.line.specs.declared.Framing.{Framing}
+use Rattle.line.specs.Wire.{framingOf, hearOf, keepOf}
 use Rattle.motion.specs.declared.Sense.{Sense}
 use Rattle.motion.specs.declared.Body.{Body}
 use Rattle.motion.specs.Events.{Turn}
@@ -67,12 +68,12 @@ outcome-tipped (G.Data D.TooLong) a v t u c h = refl
 outcome-tipped G.Nothing a v t u c h = refl
 
 -- what a frame does to the device, whatever it asks
-module _ (g : Got) (added : List ℕ) (a : Address) (t : Bool) (d : Device) (buf : List ℕ) where
-  dealt-device : dealtOf g added a (withTip t d) buf .next .device ≡ withTip t (dealtOf g added a d buf .next .device)
+module _ (f : Framing) (g : Got) (added : List ℕ) (a : Address) (t : Bool) (d : Device) (buf : List ℕ) where
+  dealt-device : dealtOf f g added a (withTip t d) buf .next .device ≡ withTip t (dealtOf f g added a d buf .next .device)
   unfolding dealtOf
   dealt-device = ap (λ (x : Turn Acted). x .next .device) (performed-tipped (taskOf g) added t d)
 
-  dealt-events : dealtOf g added a (withTip t d) buf .events ≡ dealtOf g added a d buf .events
+  dealt-events : dealtOf f g added a (withTip t d) buf .events ≡ dealtOf f g added a d buf .events
   unfolding dealtOf
   dealt-events = ap (λ (x : Turn Acted). x .events) (performed-tipped (taskOf g) added t d)
 
@@ -80,7 +81,7 @@ module _ (g : Got) (added : List ℕ) (a : Address) (t : Bool) (d : Device) (buf
   abbrev tippedExchange : Turn Exchange → Turn Exchange
   tippedExchange e = record { next = record { device = withTip t (e .next .device); said = e .next .said; buffer = e .next .buffer }; events = e .events }
 
-  dealt-tipped : asksTip g ≡ false → dealtOf g added a (withTip t d) buf ≡ tippedExchange (dealtOf g added a d buf)
+  dealt-tipped : asksTip g ≡ false → dealtOf f g added a (withTip t d) buf ≡ tippedExchange (dealtOf f g added a d buf)
   unfolding dealtOf
   dealt-tipped h = rw (performed-tipped (taskOf g) added t d, outcome-tipped g a (performedOf (taskOf g) added d .next .verdict) t (d .tip) (d .core) h)
 
@@ -108,13 +109,13 @@ module _ (k : Controller) (b : ℕ) (buf : List ℕ) where
   unfolding byteOf heardOf
   another-tip-leaves-the-controller t =
       both-ways (λ (a : Turn After). a .next .reply .controller) (λ (a : Turn After). tipped t (a .next .reply .controller)) (ltb (length buf) 32) _ _ _ _ refl
-      (ap holding (dealt-device got (take (sizeOf got) squeezed) (k .address) t (k .device) buf))
+      (ap holding (dealt-device (framingOf (k .line)) got (take (sizeOf got) squeezed) (k .address) t (k .device) buf))
 
   pub another-tip-leaves-the-history : (t : Bool) → byteOf (tipped t k) b buf .events ≡ byteOf k b buf .events
   unfolding byteOf heardOf
   another-tip-leaves-the-history t =
       both-ways (λ (a : Turn After). a .events) (λ (a : Turn After). a .events) (ltb (length buf) 32) _ _ _ _ refl
-      (dealt-events got (take (sizeOf got) squeezed) (k .address) t (k .device) buf)
+      (dealt-events (framingOf (k .line)) got (take (sizeOf got) squeezed) (k .address) t (k .device) buf)
 
   -- and all that it is answered, but to a ?31
   pub another-tip-changes-no-answer : (t : Bool) → completesTip k b ≡ false → byteOf (tipped t k) b buf ≡ tippedAfter t (byteOf k b buf)
@@ -122,7 +123,7 @@ module _ (k : Controller) (b : ℕ) (buf : List ℕ) where
   another-tip-changes-no-answer t h =
       both-ways (λ (a : Turn After). a) (tippedAfter t) (ltb (length buf) 32) _ _ _ _ refl
       (ap (λ (e : Turn Exchange). record { next = after (reply (holding (e .next .device)) (e .next .said)) (e .next .buffer); events = e .events })
-      (dealt-tipped got (take (sizeOf got) squeezed) (k .address) t (k .device) buf h))
+      (dealt-tipped (framingOf (k .line)) got (take (sizeOf got) squeezed) (k .address) t (k .device) buf h))
 
   -- a byte leaves the tip: "reset leaves it"
   pub no-byte-changes-the-tip : byteOf k b buf .next .reply .controller .device .tip ≡ k .device .tip
@@ -130,9 +131,9 @@ module _ (k : Controller) (b : ℕ) (buf : List ℕ) where
   no-byte-changes-the-tip = by (λ (a : Turn After). a .next .reply .controller .device .tip ≡ k .device .tip) (ltb (length buf) 32) (λ _. refl) (λ _. performed-keeps-tip (taskOf got) (take (sizeOf got) squeezed) (k .device))
 
 -- a fresh controller has none; a tick brings what is sensed, in every state; the stop leaves it
-pub a-fresh-controller-has-no-tip : (a : Address) → madeOf a .next .device .tip ≡ false
+pub a-fresh-controller-has-no-tip : (f : Framing) (a : Address) → madeOf f a .next .device .tip ≡ false
 unfolding madeOf freshOf
-a-fresh-controller-has-no-tip a = refl
+a-fresh-controller-has-no-tip f a = refl
 
 pub a-tick-brings-the-tip-sensed : (s : Sense) (k : Controller) → tickedOf s k .next .controller .device .tip ≡ s .tip
 unfolding tickedOf tickOf

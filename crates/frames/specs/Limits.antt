@@ -1,9 +1,10 @@
 -- 01, "The buffer": "Text holds at most 256 characters, without spaces and the final R."
 use Prim.Native.Nat.{ℕ}
 use mathlib.Core.Path.{_≡_}
-use mathlib.Core.Bool.{Bool, true, false}
+use mathlib.Core.Bool.{Bool, true}
 use mathlib.Core.List.{List, [], _++_}
 use lib.ListN.{length, take}
+use Rattle.line.specs.declared.Framing.{Framing}
 use Rattle.motion.specs.declared.Activity.the-variants.{Delaying}
 use Rattle.text.specs.Text.{readOf}
 use Rattle.text.specs.Loops.{loopsIn}
@@ -48,11 +49,11 @@ pub record Holds (whole : List ℕ) (d : Device) : Type 0 where
   pub text : take (length whole) (d .text) ≡ whole
 
 -- Data that are accepted, and make this text.
-pub record Accepts (whole ds : List ℕ) (a : Address) (d : Device) (buf : List ℕ) : Type 0 where
+pub record Accepts (f : Framing) (whole ds : List ℕ) (a : Address) (d : Device) (buf : List ℕ) : Type 0 where
   pub number : refusalOf ds a d ≡ 0
-  pub holds : Holds whole (exchangeOf ds a d buf .next .device)
+  pub holds : Holds whole (exchangeOf f ds a d buf .next .device)
 
 -- Data that are refused with a code, and what they leave.
-pub record RefusesWith (code : ℕ) (ds : List ℕ) (a : Address) (d : Device) (buf : List ℕ) : Type 0 where
+pub record RefusesWith (f : Framing) (code : ℕ) (ds : List ℕ) (a : Address) (d : Device) (buf : List ℕ) : Type 0 where
   pub number : refusalOf ds a d ≡ code
-  pub left : Refused (receivedOf ds) code d (exchangeOf ds a d buf)
+  pub left : Refused (receivedOf ds) code d (exchangeOf f ds a d buf)

@@ -4,11 +4,12 @@ use mathlib.Core.List.{List}
 use Prim.Native.Nat.{ℕ}
 use lib.ListN.{take}
 use Rattle.pipettor.specs.declared.Controller.{Controller}
-use Rattle.pipettor.specs.Listening.{beforeCr, listenedOf}
+use Rattle.line.specs.Wire.{beforeFrame}
+use Rattle.pipettor.specs.Listening.{listenedOf}
 use Rattle.frames.specs.Frame.{givenOf, Unheeded}
 
--- The bytes taken are the first ones, up to a CR; the controller is the one they leave when they are given one by one; and each of them is silent.
+-- The bytes taken are the first ones, up to one that completes a frame; the controller is the one they leave when they are given one by one; and each of them is silent.
 pub record ByteByByte (k : Controller) (bytes buf : List ℕ) : Type 0 where
-  pub taken : take (listenedOf k bytes .n) bytes ≡ beforeCr bytes
-  pub controller : listenedOf k bytes .controller ≡ givenOf k (beforeCr bytes) buf .controller
-  pub silent : Unheeded k (beforeCr bytes) buf (givenOf k (beforeCr bytes) buf)
+  pub taken : take (listenedOf k bytes .n) bytes ≡ beforeFrame (k .line) bytes
+  pub controller : listenedOf k bytes .controller ≡ givenOf k (beforeFrame (k .line) bytes) buf .controller
+  pub silent : Unheeded k (beforeFrame (k .line) bytes) buf (givenOf k (beforeFrame (k .line) bytes) buf)

@@ -17,6 +17,7 @@ use Rattle.text.specs.declared.Data.the-variants as D
 use Rattle.text.specs.Data.{spaceless, body, receivedOf}
 use Rattle.line.specs.declared.Report.{Report}
 use Rattle.line.specs.declared.Report.the-variants.{Nothing}
+use Rattle.line.specs.declared.Framing.{Framing}
 use Rattle.line.specs.Answer.{statusOf, answerOf}
 use Rattle.motion.specs.Events.{Turn}
 use Rattle.buffer.specs.declared.course.State.{State}
@@ -88,14 +89,14 @@ reportIn D.TooLong a d = Nothing
 abbrev pub statusCode : Data → ℕ → ℕ → ℕ
 statusCode x number error = if isReport x && eqb number 0 then error else number
 
--- "Answer: `/`, `0`, status byte, data, 03h, CR, LF." "Ready or busy is taken after the frame has acted."
-abbrev pub answerTo : Data → ℕ → Address → Device → Core → List ℕ
-answerTo x number a before after = answerOf (statusOf (readyOf after) (statusCode x number (before .core .course .error))) (reportIn x a before)
+-- the answer's bytes in the framing of the line. "Ready or busy is taken after the frame has acted."
+abbrev pub answerTo : Framing → Data → ℕ → Address → Device → Core → List ℕ
+answerTo f x number a before after = answerOf f (statusOf (readyOf after) (statusCode x number (before .core .course .error))) (reportIn x a before)
 
 -- Every frame to us is answered so; "Bytes after an answer's end stay as they were."
-pub record Replied (x : Data) (number : ℕ) (a : Address) (d : Device) (buf : List ℕ) (e : Turn Exchange) : Type 0 where
-  pub said : e .next .said ≡ Answer (length (answerTo x number a d (e .next .device .core)))
-  pub buffer : e .next .buffer ≡ over (answerTo x number a d (e .next .device .core)) 0 buf
+pub record Replied (f : Framing) (x : Data) (number : ℕ) (a : Address) (d : Device) (buf : List ℕ) (e : Turn Exchange) : Type 0 where
+  pub said : e .next .said ≡ Answer (length (answerTo f x number a d (e .next .device .core)))
+  pub buffer : e .next .buffer ≡ over (answerTo f x number a d (e .next .device .core)) 0 buf
 
 -- 02, W-202: the column that a frame leaves, by its data, where another was left before: "the last load refusal by 2 or 3"; "Reports don't set it. It is 0 after any other frame to us"
 abbrev pub columnAfter : Data → ℕ → ℕ

@@ -6,15 +6,17 @@ use Prim.Native.Nat.{ℕ, zero, suc, _+_, _*_, _/_, _%_, _^_, _≤_}
 use native.Mathlib.Omega.{arith}
 use lib.ListN.{length, length-append}
 use Rattle.basics.specs.Choice.{if_then_else_}
-use Rattle.basics.specs.Bytes.{point}
+use Rattle.basics.specs.Bytes.{zeroDigit, point}
 use Rattle.decimal.specs.Digits.{digitsOf, lastDigits, fixedOf}
 use Rattle.decimal.proofs.Digits.{length-last}
 use Rattle.decimal.proofs.PlaceValue.{digits-at-most-ten}
-use Rattle.line.specs.Wire.{cr}
+use Rattle.line.specs.declared.Framing.{Framing}
+use Rattle.line.specs.declared.Framing.the-variants.{Dt, Oem}
+use Rattle.line.specs.Bytes.{sumFrom, sumOf}
 use Rattle.line.specs.declared.Report.{Report}
 use Rattle.line.specs.declared.Report.the-variants.{Nothing, Character, Whole, Tenths, Thousandths}
 use Rattle.line.specs.declared.Said.{Said}
-use Rattle.line.specs.Answer.{etx, lf, statusOf, reportOf, answerOf, Answered}
+use Rattle.line.specs.Answer.{startOf, tailOf, statusOf, reportOf, answerOf, Answered}
 
 pub fixed-short : (d n : ℕ) → length (fixedOf d n) ≤ 11 + d
 unfolding fixedOf
@@ -32,16 +34,23 @@ report-short (Whole n) = omega (arith, fixed-short 0 n)
 report-short (Tenths n) = omega (arith, fixed-short 1 n)
 report-short (Thousandths n) = fixed-short 3 n
 
--- so no answer is longer than 20 bytes, and a buffer of 32 has room for each
-pub answer-fits : (status : ℕ) (report : Report) → length (answerOf status report) ≤ 20
+-- so no answer is longer than 20 bytes, in either framing, and a buffer of 32 has room for each
+pub tail-short : (f : Framing) (before : List ℕ) → length (tailOf f before) ≤ 3
+unfolding tailOf
+tail-short Dt before = omega arith
+tail-short Oem before = omega arith
+
+pub answer-fits : (f : Framing) (status : ℕ) (report : Report) → length (answerOf f status report) ≤ 20
 unfolding answerOf
-answer-fits status report = omega (arith, report-short report, length-append (reportOf report) (etx ∷ cr ∷ lf ∷ []))
+answer-fits f status report =
+    let before = startOf f ∷ zeroDigit ∷ status ∷ reportOf report in
+    omega (arith, report-short report, tail-short f before, length-append before (tailOf f before))
 
 -- one answer, one buffer: the contract allows no other
 pub answered-once :
-    (status : ℕ) (report : Report) (before : List ℕ) (r r′ : Said) (after after′ : List ℕ) →
-    Answered status report before r after → Answered status report before r′ after′ → (r ≡ r′) × (after ≡ after′)
-answered-once status report before r r′ after after′ x y = (x .said ∙ sym (y .said), x .left ∙ sym (y .left))
+    (f : Framing) (status : ℕ) (report : Report) (before : List ℕ) (r r′ : Said) (after after′ : List ℕ) →
+    Answered f status report before r after → Answered f status report before r′ after′ → (r ≡ r′) × (after ≡ after′)
+answered-once f status report before r r′ after after′ x y = (x .said ∙ sym (y .said), x .left ∙ sym (y .left))
 
 -- what 01 says of each bit of the status byte
 pub record Bits (ready : Bool) (code s : ℕ) : Type 0 where
@@ -74,6 +83,18 @@ unfolding statusOf
 busy-is = refl
 
 -- "Answer: `/`, `0`, status byte, data, 03h, CR, LF."
-pub the-bytes-of-an-answer : (status : ℕ) (report : Report) → answerOf status report ≡ (47 ∷ 48 ∷ status ∷ []) ++ reportOf report ++ (3 ∷ 13 ∷ 10 ∷ [])
-unfolding answerOf
+pub the-bytes-of-an-answer : (status : ℕ) (report : Report) → answerOf Dt status report ≡ (47 ∷ 48 ∷ status ∷ []) ++ reportOf report ++ (3 ∷ 13 ∷ 10 ∷ [])
+unfolding answerOf startOf tailOf
 the-bytes-of-an-answer status report = refl
+
+-- 02, W-204: "Answered: 02h, 30h, status, data, 03h, checksum."
+pub the-bytes-of-an-oem-answer :
+    (status : ℕ) (report : Report) →
+    answerOf Oem status report ≡ (2 ∷ 48 ∷ status ∷ []) ++ reportOf report ++ (3 ∷ sumOf ((2 ∷ 48 ∷ status ∷ []) ++ reportOf report ++ (3 ∷ [])) ∷ [])
+unfolding answerOf startOf tailOf
+the-bytes-of-an-oem-answer status report = refl
+
+-- "Source 002's `02 30 40 03 51` is a misprint: the sum is 71h."
+pub the-sum-of-a-busy-answer : answerOf Oem 64 Nothing ≡ 2 ∷ 48 ∷ 64 ∷ 3 ∷ 113 ∷ []
+unfolding answerOf startOf tailOf reportOf sumFrom
+the-sum-of-a-busy-answer = refl

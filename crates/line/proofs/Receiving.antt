@@ -1,35 +1,36 @@
--- Theorems: a frame is received the same way whatever bytes came before it; what a byte changes; how far the count goes.
-use mathlib.Core.Path.{_≡_, refl, sym, ap, _∙_}
-use mathlib.Core.Bool.{Bool, true, false, not}
+-- Theorems on receivers of either framing: bytes in two parts, what a byte changes, how far the count goes, and what the bytes of a frame's data leave.
+use mathlib.Core.Path.{_≡_, refl, ap, _∙_}
+use mathlib.Core.Bool.{Bool, true, false, _&&_}
 use mathlib.Core.List.{List, [], _∷_, _++_}
 use Prim.Native.Nat.{ℕ, suc, _+_, _-_, _≤_, _<_, min}
-use native.Mathlib.Nat.{zero-add}
 use native.Mathlib.Numerals.{add-one}
 use native.Mathlib.Omega.{arith}
-use borrow.Author.Tests.{ltb-true, ltb-false, leb-true, le-leb, ne-eqb, not-true}
+use borrow.Author.Tests.{ltb-true, ltb-false, leb-true, le-leb}
 use lib.Dec.{ltb, leb, eqb}
-use lib.ListN.{length, take, drop, getD, set, length-set, length-take}
-use lib.Seq.{sets, sets-eq, take-at, take-nil, getD-set-same, getD-set-other}
-use Rattle.basics.specs.Choice.{if_then_else_}
-use Rattle.basics.proofs.Choice.{by}
+use lib.ListN.{length, take, getD, set, length-set}
+use lib.Seq.{sets, take-nil, getD-set-same, getD-set-other}
 use Rattle.basics.specs.Bytes.{every}
+use Rattle.basics.proofs.Choice.{by}
 use Rattle.basics.proofs.Digits.{and-both}
-use Rattle.basics.proofs.Rules.{tests}
+use Rattle.line.specs.declared.Framing.the-variants as F
 use Rattle.line.specs.declared.Line.{Line}
-use Rattle.line.specs.declared.Line.the-variants.{Outside, Started, Collecting}
+use Rattle.line.specs.declared.Line.the-variants.{Dt, Oem}
 use Rattle.line.specs.declared.Deed.{Deed}
 use Rattle.line.specs.declared.Deed.the-variants.{Nothing, Keep, Frame}
 use Rattle.line.specs.declared.Heard.{Heard}
-use Rattle.line.specs.Wire.{slash, cr, printable, waits, endOf, takeOf, hearOf, keepOf, Received, hears, feed, completes, framesOf, dataByte, framed, Within}
-
--- whatever the line: `/` starts a frame, CR ends it, and a data byte is taken
-hear-slash : (l : Line) → hearOf l slash ≡ waits Started
-unfolding hearOf
-hear-slash l = refl
-
-hear-cr : (l : Line) → hearOf l cr ≡ endOf l
-unfolding hearOf
-hear-cr l = refl
+use Rattle.line.specs.declared.dt.Dt.{Dt as DtState}
+use Rattle.line.specs.declared.dt.Dt.the-variants as D
+use Rattle.line.specs.declared.dt.Step.{Step as DtStep}
+use Rattle.line.specs.declared.oem.Head.{Head}
+use Rattle.line.specs.declared.oem.Oem.{Oem as OemState}
+use Rattle.line.specs.declared.oem.Oem.the-variants as O
+use Rattle.line.specs.declared.oem.Step.{Step as OemStep}
+use Rattle.line.specs.Bytes.{printable}
+use Rattle.line.specs.Dt as Dt
+use Rattle.line.specs.Dt.{slash, cr}
+use Rattle.line.specs.Oem as Oem
+use Rattle.line.specs.Oem.{stx, etx}
+use Rattle.line.specs.Wire.{framingOf, hearOf, keepOf, Received, hears, feed, completes, framesOf, sumDue, Within}
 
 -- "CR and 20h to 7Eh": which bytes are printable, exactly
 pub a-printable-byte-is-20h-to-7Eh : (b : ℕ) → printable b ≡ true → (32 ≤ b) × (b ≤ 126)
@@ -40,75 +41,16 @@ pub from-20h-to-7Eh-is-printable : (b : ℕ) → 32 ≤ b → b ≤ 126 → prin
 unfolding printable
 from-20h-to-7Eh-is-printable b h k = simp (le-leb 32 b h, le-leb b 126 k)
 
-pub no-cr : (b : ℕ) → printable b ≡ true → b ≡ cr → ⊥
-no-cr b p e = omega (arith, a-printable-byte-is-20h-to-7Eh b p .0)
-
-hear-data : (l : Line) (b : ℕ) → dataByte b ≡ true → hearOf l b ≡ takeOf l b
-unfolding hearOf dataByte
-hear-data l b d =
-    let p = and-both (printable b) (not (eqb b slash)) d in
-    rw (not-true (eqb b slash) (p .1), ne-eqb b cr (no-cr b (p .0)), p .0)
-
-abbrev at : Line → List ℕ → Received
-at l f = record { line = l; frame = f }
-
--- a data byte of a frame: kept, or counted as one too many
-module _ (a n b : ℕ) (d : dataByte b ≡ true) where
-  kept : n < 320 → hearOf (Collecting a n) b ≡ record { line = Collecting a (n + 1); deed = Keep n }
-  unfolding takeOf
-  kept h = hear-data (Collecting a n) b d ∙ simp tests
-
-  full : 320 ≤ n → hearOf (Collecting a n) b ≡ waits (Collecting a 321)
-  unfolding takeOf
-  full h = hear-data (Collecting a n) b d ∙ simp tests
-
-  hears-kept : (f : List ℕ) → n < 320 → hears (at (Collecting a n) f) b ≡ at (Collecting a (n + 1)) (set f n b)
-  unfolding hears keepOf
-  hears-kept f h = rw (kept h)
-
-  hears-full : (f : List ℕ) → 320 ≤ n → hears (at (Collecting a n) f) b ≡ at (Collecting a 321) f
-  unfolding hears keepOf
-  hears-full f h = rw (full h)
+-- so none of them is CR, 02h or 03h
+pub no-low : (b c : ℕ) → printable b ≡ true → c < 32 → b ≡ c → ⊥
+no-low b c p l e = omega (arith, a-printable-byte-is-20h-to-7Eh b p .0)
 
 -- one number is below another, or not
 pub less : {G : Type 0} (n m : ℕ) → (n < m → G) → (m ≤ n → G) → G
 less {G} n m f g = by (λ (t : Bool). G) (ltb n m) {a = true} {b = true} (λ e. f (ltb-true n m e)) (λ e. g (ltb-false n m e))
 
--- data from any place of a frame on, and what they leave
-module _ (a : ℕ) where
-  same : (n m : ℕ) (f g : List ℕ) → n ≡ m → f ≡ g → at (Collecting a n) f ≡ at (Collecting a m) g
-  same n m f g p q = rw (p, q)
-
-  abbrev left : ℕ → List ℕ → List ℕ → Received
-  left n f ds = at (Collecting a (min 321 (n + length ds))) (sets f n (take (320 - n) ds))
-
-  left-kept : (n b : ℕ) (f bs : List ℕ) → n < 320 → left (n + 1) (set f n b) bs ≡ left n f (b ∷ bs)
-  left-kept n b f bs h =
-      let q : 320 - n ≡ suc (320 - (n + 1)) = omega arith in
-      same _ _ _ _ (omega arith) (rw (q, add-one n))
-
-  left-full : (n b : ℕ) (f bs : List ℕ) → 320 ≤ n → left 321 f bs ≡ left n f (b ∷ bs)
-  left-full n b f bs h =
-      let q : 320 - n ≡ 0 = omega arith in
-      same _ _ _ _ (omega arith) (rw q)
-
-  collected : (n : ℕ) (f ds : List ℕ) → n ≤ 321 → every dataByte ds ≡ true → feed (at (Collecting a n) f) ds ≡ left n f ds
-  unfolding feed every
-  collected n f [] h e = let m : n ≡ min 321 (n + 0) = omega arith in same _ _ _ _ m (rw take-nil)
-  collected n f (b ∷ bs) h e =
-      let d = and-both (dataByte b) (every dataByte bs) e in
-      less n 320
-      (λ k. ap (λ (r : Received). feed r bs) (hears-kept a n b (d .0) f k) ∙ collected (n + 1) (set f n b) bs (omega arith) (d .1) ∙ left-kept n b f bs k)
-      (λ k. ap (λ (r : Received). feed r bs) (hears-full a n b (d .0) f k) ∙ collected 321 f bs (omega arith) (d .1) ∙ left-full n b f bs k)
-
-  quiet : (n : ℕ) (ds : List ℕ) → every dataByte ds ≡ true → framesOf (Collecting a n) ds ≡ []
-  unfolding framesOf completes every
-  quiet n [] e = refl
-  quiet n (b ∷ bs) e =
-      let d = and-both (dataByte b) (every dataByte bs) e in
-      less n 320
-      (λ k. rw (kept a n b (d .0) k) (quiet (n + 1) bs (d .1)))
-      (λ k. rw (full a n b (d .0) k) (quiet 321 bs (d .1)))
+abbrev pub at : Line → List ℕ → Received
+at l f = record { line = l; frame = f }
 
 -- bytes in two parts
 pub feed-append : (r : Received) (xs ys : List ℕ) → feed r (xs ++ ys) ≡ feed (feed r xs) ys
@@ -137,75 +79,21 @@ feed-long r (b ∷ bs) = feed-long (hears r b) bs ∙ go (hearOf (r .line) b .de
     go (Keep at) = length-set (r .frame) at b
     go (Frame a n) = refl
 
-take-sets : (f xs : List ℕ) → length xs ≤ length f → take (length xs) (sets f 0 xs) ≡ xs
-take-sets f xs h = rw (sets-eq xs f 0 (omega arith)) (take-at xs (drop (0 + length xs) f) (length xs) refl)
+-- and so does the framing
+pub hear-keeps-framing : (l : Line) (b : ℕ) → framingOf (hearOf l b .line) ≡ framingOf l
+unfolding hearOf
+hear-keeps-framing (Dt d) b = refl
+hear-keeps-framing (Oem o) b = refl
 
--- A frame to an address, completed by its CR and by no byte before it: so many data bytes, 321 for more than 320, of which the first 320 are kept.
-pub record Whole (a : ℕ) (ds : List ℕ) (r : Received) : Type 0 where
-  pub silent : framesOf (r .line) (slash ∷ a ∷ ds) ≡ []
-  pub last : hearOf (feed r (slash ∷ a ∷ ds) .line) cr .deed ≡ Frame a (min 321 (length ds))
-  pub outside : feed r (framed a ds) .line ≡ Outside
-  pub kept : take (min 320 (length ds)) (feed r (framed a ds) .frame) ≡ take 320 ds
+pub feed-keeps-framing : (r : Received) (bs : List ℕ) → framingOf (feed r bs .line) ≡ framingOf (r .line)
+unfolding feed hears
+feed-keeps-framing r [] = refl
+feed-keeps-framing r (b ∷ bs) = feed-keeps-framing (hears r b) bs ∙ hear-keeps-framing (r .line) b
 
--- Two receivers that hear the same frame, and then the same bytes.
-pub record Alike (a : ℕ) (ds : List ℕ) (r s : Received) : Type 0 where
-  pub frames : (later : List ℕ) → framesOf (r .line) (framed a ds ++ later) ≡ framesOf (s .line) (framed a ds ++ later)
-  pub line : feed r (framed a ds) .line ≡ feed s (framed a ds) .line
-  pub kept : take (min 320 (length ds)) (feed r (framed a ds) .frame) ≡ take (min 320 (length ds)) (feed s (framed a ds) .frame)
-
-module _ (a : ℕ) (ds : List ℕ) (p : dataByte a ≡ true) (q : every dataByte ds ≡ true) where
-  begun : (r : Received) (rest : List ℕ) → feed r (slash ∷ a ∷ rest) ≡ feed (at (Collecting a 0) (r .frame)) rest
-  unfolding feed hears keepOf takeOf
-  begun r rest = rw (hear-slash (r .line), hear-data Started a p)
-
-  before-cr : (r : Received) → feed r (slash ∷ a ∷ ds) ≡ left a 0 (r .frame) ds
-  before-cr r = begun r ds ∙ collected a 0 (r .frame) ds (omega arith) q
-
-  after-cr : (r : Received) → feed r (framed a ds) ≡ at Outside (sets (r .frame) 0 (take 320 ds))
-  unfolding feed hears keepOf endOf
-  after-cr r = feed-append r (slash ∷ a ∷ ds) (cr ∷ []) ∙ rw (before-cr r, hear-cr)
-
-  quiet-start : (l : Line) → framesOf l (slash ∷ a ∷ ds) ≡ []
-  unfolding framesOf completes takeOf
-  quiet-start l = rw (hear-slash l, hear-data Started a p) (quiet a 0 ds q)
-
-  one-frame : (r : Received) → framesOf (r .line) (framed a ds) ≡ Frame a (min 321 (length ds)) ∷ []
-  unfolding framesOf completes endOf
-  one-frame r = frames-append r (slash ∷ a ∷ ds) (cr ∷ []) ∙ rw (quiet-start (r .line), before-cr r, hear-cr, zero-add)
-
-  and-later : (r : Received) (later : List ℕ) → framesOf (r .line) (framed a ds ++ later) ≡ Frame a (min 321 (length ds)) ∷ framesOf Outside later
-  and-later r later = frames-append r (framed a ds) later ∙ rw (one-frame r, after-cr r)
-
-  -- The frame is received whole, whatever the line and whatever the frame in hand.
-  pub whole-frame : (r : Received) → length (r .frame) ≡ 320 → Whole a ds r
-  unfolding endOf
-  whole-frame r n = record {
-    silent = quiet-start (r .line);
-    last = rw (before-cr r, hear-cr, zero-add);
-    outside = ap (λ (x : Received). x .line) (after-cr r);
-    kept = ap (λ (x : Received). take (min 320 (length ds)) (x .frame)) (after-cr r)
-        ∙ rw (← length-take 320 ds) (take-sets (r .frame) (take 320 ds) (omega (arith, n, length-take 320 ds)));
-  }
-
-  -- So it is received whole after any bytes at all, and is the next frame completed.
-  pub whole-after : (r : Received) (noise : List ℕ) → length (r .frame) ≡ 320 → Whole a ds (feed r noise)
-  whole-after r noise n = whole-frame (feed r noise) (feed-long r noise ∙ n)
-
-  pub after-noise :
-      (r : Received) (noise : List ℕ) →
-      framesOf (r .line) (noise ++ framed a ds) ≡ framesOf (r .line) noise ++ (Frame a (min 321 (length ds)) ∷ [])
-  after-noise r noise = frames-append r noise (framed a ds) ∙ ap (λ (fs : List Deed). framesOf (r .line) noise ++ fs) (one-frame (feed r noise))
-
-  -- Two receivers in any states, one of them fresh perhaps, receive it alike, and alike what follows it.
-  pub alike : (r s : Received) → length (r .frame) ≡ 320 → length (s .frame) ≡ 320 → Alike a ds r s
-  alike r s m n =
-      let x = whole-frame r m in
-      let y = whole-frame s n in
-      record {
-        frames = λ later. and-later r later ∙ sym (and-later s later);
-        line = x .outside ∙ sym (y .outside);
-        kept = x .kept ∙ sym (y .kept);
-      }
+-- DT has no sum to wait for
+pub no-sum-in-DT : (l : Line) → framingOf l ≡ F.Dt → sumDue l ≡ false
+no-sum-in-DT (Dt d) e = refl
+no-sum-in-DT (Oem o) e = let z : _≡_ {A = ℕ} 0 1 = cc in absurd (omega arith)
 
 -- A byte whose deed is Nothing changes nothing but the line, and so does one that completes a frame.
 pub nothing-kept : (r : Received) (b : ℕ) → hearOf (r .line) b .deed ≡ Nothing → hears r b .frame ≡ r .frame
@@ -222,28 +110,61 @@ Low Nothing = Unit {0}
 Low (Keep at) = at < 320
 Low (Frame a n) = Unit {0}
 
+abbrev FineDt : DtState → DtStep → Type 0
+FineDt d s = Low (s .deed) × (Dt.Within d → Dt.Within (s .dt))
+
+dt-end : (d : DtState) → FineDt d (Dt.endOf d)
+unfolding Dt.endOf
+dt-end D.Outside = (tt, λ w. tt)
+dt-end D.Started = (tt, λ w. tt)
+dt-end (D.Collecting a n) = (tt, λ w. tt)
+
+dt-take : (d : DtState) (b : ℕ) → FineDt d (Dt.takeOf d b)
+unfolding Dt.takeOf
+dt-take D.Outside b = (tt, λ w. tt)
+dt-take D.Started b = (tt, λ w. omega arith)
+dt-take (D.Collecting a n) b =
+    by (FineDt (D.Collecting a n)) (ltb n 320) (λ e. let h = ltb-true n 320 e in (h, λ w. omega arith)) (λ e. (tt, λ w. omega arith))
+
+fine-dt : (d : DtState) (b : ℕ) → FineDt d (Dt.hearOf d b)
+unfolding Dt.hearOf
+fine-dt d b =
+    by (FineDt d) (eqb b slash) (λ e. (tt, λ w. tt)) (λ e.
+    by (FineDt d) (eqb b cr) (λ e. dt-end d) (λ e.
+    by (FineDt d) (printable b) (λ e. dt-take d b) (λ e. (tt, λ w. tt))))
+
+abbrev FineOem : OemState → OemStep → Type 0
+FineOem o s = Low (s .deed) × (Oem.Within o → Oem.Within (s .oem))
+
+oem-header : (o next : OemState) (b : ℕ) → Oem.Within next → FineOem o (Oem.headerOf b next)
+unfolding Oem.headerOf
+oem-header o next b n =
+    by (FineOem o) (eqb b stx) (λ e. (tt, λ w. tt)) (λ e.
+    by (FineOem o) (printable b) (λ e. (tt, λ w. n)) (λ e. (tt, λ w. tt)))
+
+oem-take : (h : Head) (n b : ℕ) → FineOem (O.Collecting h n) (Oem.takeOf h n b)
+unfolding Oem.takeOf
+oem-take h n b =
+    by (FineOem (O.Collecting h n)) (ltb n 320) (λ e. let l = ltb-true n 320 e in (l, λ w. omega arith)) (λ e. (tt, λ w. omega arith))
+
+fine-oem : (o : OemState) (b : ℕ) → FineOem o (Oem.hearOf o b)
+unfolding Oem.hearOf Oem.collectOf Oem.judgedOf
+fine-oem O.Outside b = by (FineOem O.Outside) (eqb b stx) (λ e. (tt, λ w. tt)) (λ e. (tt, λ w. tt))
+fine-oem O.Started b = oem-header O.Started (O.Addressed b) b tt
+fine-oem (O.Addressed a) b = oem-header (O.Addressed a) (O.Collecting (Oem.headOf a b) 0) b (omega arith)
+fine-oem (O.Collecting h n) b =
+    by (FineOem (O.Collecting h n)) (eqb b stx) (λ e. (tt, λ w. tt)) (λ e.
+    by (FineOem (O.Collecting h n)) (eqb b etx) (λ e. (tt, λ w. w)) (λ e.
+    by (FineOem (O.Collecting h n)) (printable b) (λ e. oem-take h n b) (λ e. (tt, λ w. tt))))
+fine-oem (O.Ended h n) b = by (FineOem (O.Ended h n)) (eqb b (h .sum) && Oem.sequenced (h .sequence)) (λ e. (tt, λ w. tt)) (λ e. (tt, λ w. tt))
+
 abbrev Fine : Line → Heard → Type 0
 Fine l h = Low (h .deed) × (Within l → Within (h .line))
 
-fine-end : (l : Line) → Fine l (endOf l)
-unfolding endOf
-fine-end Outside = (tt, λ w. tt)
-fine-end Started = (tt, λ w. tt)
-fine-end (Collecting a n) = (tt, λ w. tt)
-
-fine-take : (l : Line) (b : ℕ) → Fine l (takeOf l b)
-unfolding takeOf
-fine-take Outside b = (tt, λ w. tt)
-fine-take Started b = (tt, λ w. omega arith)
-fine-take (Collecting a n) b =
-    by (Fine (Collecting a n)) (ltb n 320) (λ e. let h = ltb-true n 320 e in (h, λ w. omega arith)) (λ e. (tt, λ w. omega arith))
-
 fine : (l : Line) (b : ℕ) → Fine l (hearOf l b)
 unfolding hearOf
-fine l b =
-    by (Fine l) (eqb b slash) (λ e. (tt, λ w. tt)) (λ e.
-    by (Fine l) (eqb b cr) (λ e. fine-end l) (λ e.
-    by (Fine l) (printable b) (λ e. fine-take l b) (λ e. (tt, λ w. tt))))
+fine (Dt d) b = fine-dt d b
+fine (Oem o) b = fine-oem o b
 
 -- A byte whose deed is Keep changes one place of the frame, and no other.
 pub record OnePlace (at b : ℕ) (before after : List ℕ) : Type 0 where
@@ -270,3 +191,56 @@ pub feed-within : (r : Received) (bs : List ℕ) → Within (r .line) → Within
 unfolding feed hears
 feed-within r [] w = w
 feed-within r (b ∷ bs) w = feed-within (hears r b) bs (hear-within (r .line) b w)
+
+-- The data of a frame in hand, in either framing: what is known of it beside the count (an address, or the head) goes on with each byte; 320 bytes are kept, and all are counted up to 321.
+pub record Collects {A : Type 0} (inside : A → ℕ → Line) (next : A → ℕ → A) (good : ℕ → Bool) : Type 0 where
+  pub kept : (x : A) (n b : ℕ) → good b ≡ true → n < 320 → hearOf (inside x n) b ≡ record { line = inside (next x b) (n + 1); deed = Keep n }
+  pub full : (x : A) (n b : ℕ) → good b ≡ true → 320 ≤ n → hearOf (inside x n) b ≡ record { line = inside (next x b) 321; deed = Nothing }
+
+module _ {A : Type 0} (inside : A → ℕ → Line) (next : A → ℕ → A) (good : ℕ → Bool) (c : Collects inside next good) where
+  -- after bytes
+  abbrev pub along : A → List ℕ → A
+  along x [] = x
+  along x (b ∷ bs) = along (next x b) bs
+
+  hears-kept : (x : A) (n b : ℕ) (f : List ℕ) → good b ≡ true → n < 320 → hears (at (inside x n) f) b ≡ at (inside (next x b) (n + 1)) (set f n b)
+  unfolding hears keepOf
+  hears-kept x n b f g h = rw (c .kept x n b g h)
+
+  hears-full : (x : A) (n b : ℕ) (f : List ℕ) → good b ≡ true → 320 ≤ n → hears (at (inside x n) f) b ≡ at (inside (next x b) 321) f
+  unfolding hears keepOf
+  hears-full x n b f g h = rw (c .full x n b g h)
+
+  same : (x : A) (n m : ℕ) (f g : List ℕ) → n ≡ m → f ≡ g → at (inside x n) f ≡ at (inside x m) g
+  same x n m f g p q = rw (p, q)
+
+  abbrev pub left : A → ℕ → List ℕ → List ℕ → Received
+  left x n f ds = at (inside (along x ds) (min 321 (n + length ds))) (sets f n (take (320 - n) ds))
+
+  left-kept : (x : A) (n b : ℕ) (f bs : List ℕ) → n < 320 → left (next x b) (n + 1) (set f n b) bs ≡ left x n f (b ∷ bs)
+  left-kept x n b f bs h =
+      let q : 320 - n ≡ suc (320 - (n + 1)) = omega arith in
+      same _ _ _ _ _ (omega arith) (rw (q, add-one n))
+
+  left-full : (x : A) (n b : ℕ) (f bs : List ℕ) → 320 ≤ n → left (next x b) 321 f bs ≡ left x n f (b ∷ bs)
+  left-full x n b f bs h =
+      let q : 320 - n ≡ 0 = omega arith in
+      same _ _ _ _ _ (omega arith) (rw q)
+
+  pub collected : (x : A) (n : ℕ) (f ds : List ℕ) → n ≤ 321 → every good ds ≡ true → feed (at (inside x n) f) ds ≡ left x n f ds
+  unfolding feed every
+  collected x n f [] h e = let m : n ≡ min 321 (n + 0) = omega arith in same x _ _ _ _ m (rw take-nil)
+  collected x n f (b ∷ bs) h e =
+      let d = and-both (good b) (every good bs) e in
+      less n 320
+      (λ k. ap (λ (r : Received). feed r bs) (hears-kept x n b f (d .0) k) ∙ collected (next x b) (n + 1) (set f n b) bs (omega arith) (d .1) ∙ left-kept x n b f bs k)
+      (λ k. ap (λ (r : Received). feed r bs) (hears-full x n b f (d .0) k) ∙ collected (next x b) 321 f bs (omega arith) (d .1) ∙ left-full x n b f bs k)
+
+  pub quiet : (x : A) (n : ℕ) (ds : List ℕ) → every good ds ≡ true → framesOf (inside x n) ds ≡ []
+  unfolding framesOf completes every
+  quiet x n [] e = refl
+  quiet x n (b ∷ bs) e =
+      let d = and-both (good b) (every good bs) e in
+      less n 320
+      (λ k. rw (c .kept x n b (d .0) k) (quiet (next x b) (n + 1) bs (d .1)))
+      (λ k. rw (c .full x n b (d .0) k) (quiet (next x b) 321 bs (d .1)))

@@ -1,2 +1,5 @@
+pub mod Bytes
+pub mod Dt
+pub mod Oem
 pub mod Wire
 pub mod Answer

@@ -1,16 +1,22 @@
 // Frames from the wire and answers back to it. What they carry is not known here.
-use basics::Put;
-ghost use mathlib.Core.Path.{_≡_};
-ghost use lib.ListN.{set};
-ghost use Rattle.basics.specs.Lay.{Laid};
-ghost use Rattle.line.specs.Wire.{printable, waits, whole, endOf, takeOf, hearOf, keepOf};
-ghost use Rattle.line.specs.Answer.{statusOf, reportOf, Answered};
+pub mod dt;
+pub mod oem;
 
-// Outside a frame; after `/`; in a frame to an address, with so many data bytes, 321 for more than 320.
-pub enum Line {
-    Outside,
-    Started,
-    Collecting(u8, usize),
+use basics::Put;
+use dt::Dt;
+use oem::Oem;
+ghost use mathlib.Core.Path.{_≡_};
+ghost use Prim.Native.Nat.{_+_, _≤_};
+ghost use lib.ListN.{length, set};
+ghost use Rattle.basics.specs.Lay.{Laid};
+ghost use Rattle.line.specs.Bytes.{printable, sumOf};
+ghost use Rattle.line.specs.Wire.{freshLine, framingOf, hearOf, keepOf, isWhole};
+ghost use Rattle.line.specs.Answer.{statusOf, reportOf, startOf, Closed, Answered};
+
+// How frames are wrapped on the line, chosen when a controller is made.
+pub enum Framing {
+    Dt,
+    Oem,
 }
 
 // What a byte asks for: nothing; to be kept at a place of the frame; that a frame to an address, with so many
@@ -21,31 +27,28 @@ pub enum Deed {
     Frame(u8, usize),
 }
 
+impl Deed {
+    // Whether a frame is complete.
+    pub fn is_whole(self) -> bool
+        ensures { λ r. ⌜ r ≡ isWhole self ⌝ }
+    {
+        match self {
+            Deed::Nothing => false,
+            Deed::Keep(_) => false,
+            Deed::Frame(_, _) => true,
+        }
+    }
+}
+
+// A receiver of either framing.
+pub enum Line {
+    Dt(Dt),
+    Oem(Oem),
+}
+
 pub struct Heard {
     pub line: Line,
     pub deed: Deed,
-}
-
-impl Heard {
-    // The byte changes the line and nothing else.
-    fn waits(line: Line) -> Heard
-        ensures { λ r. ⌜ r ≡ waits line ⌝ }
-    {
-        Heard {
-            line: line,
-            deed: Deed::Nothing,
-        }
-    }
-
-    // The byte ends a frame.
-    fn whole(address: u8, count: usize) -> Heard
-        ensures { λ r. ⌜ r ≡ whole address count ⌝ }
-    {
-        Heard {
-            line: Line::Outside,
-            deed: Deed::Frame(address, count),
-        }
-    }
 }
 
 // Whether a byte is one of 20h to 7Eh.
@@ -60,40 +63,21 @@ pub fn printable(b: u8) -> bool
 
 impl Line {
     // The line before any byte.
-    pub fn fresh() -> Line
-        ensures { λ r. ⌜ r ≡ Line.Outside ⌝ }
+    pub fn fresh(framing: Framing) -> Line
+        ensures { λ r. ⌜ r ≡ freshLine framing ⌝ }
     {
-        Line::Outside
-    }
-
-    // CR, which ends a frame.
-    fn end(self) -> Heard
-        ensures { λ r. ⌜ r ≡ endOf self ⌝ }
-    {
-        match self {
-            Line::Outside => Heard::waits(Line::Outside),
-            Line::Started => Heard::waits(Line::Outside),
-            Line::Collecting(address, count) => Heard::whole(address, count),
+        match framing {
+            Framing::Dt => Line::Dt(Dt::Outside),
+            Framing::Oem => Line::Oem(Oem::Outside),
         }
     }
 
-    // A byte of 20h to 7Eh that is no `/`.
-    fn take(self, b: u8) -> Heard
-        ensures { λ r. ⌜ r ≡ takeOf self b ⌝ }
+    pub fn framing(self) -> Framing
+        ensures { λ r. ⌜ r ≡ framingOf self ⌝ }
     {
         match self {
-            Line::Outside => Heard::waits(Line::Outside),
-            Line::Started => Heard::waits(Line::Collecting(b, 0)),
-            Line::Collecting(address, count) => {
-                if count < 320 {
-                    let more = count + 1;
-                    return Heard {
-                        line: Line::Collecting(address, more),
-                        deed: Deed::Keep(count),
-                    };
-                }
-                Heard::waits(Line::Collecting(address, 321))
-            }
+            Line::Dt(_) => Framing::Dt,
+            Line::Oem(_) => Framing::Oem,
         }
     }
 
@@ -101,16 +85,26 @@ impl Line {
     pub fn hear(self, b: u8) -> Heard
         ensures { λ r. ⌜ r ≡ hearOf self b ⌝ }
     {
-        if b == b'/' {
-            return Heard::waits(Line::Started);
+        match self {
+            Line::Dt(dt) => {
+                let step = dt.hear(b);
+                let next = step.dt;
+                let deed = step.deed;
+                Heard {
+                    line: Line::Dt(next),
+                    deed,
+                }
+            }
+            Line::Oem(oem) => {
+                let step = oem.hear(b);
+                let next = step.oem;
+                let deed = step.deed;
+                Heard {
+                    line: Line::Oem(next),
+                    deed,
+                }
+            }
         }
-        if b == 13 {
-            return self.end();
-        }
-        if printable(b) {
-            return self.take(b);
-        }
-        Heard::waits(Line::Outside)
     }
 }
 
@@ -179,21 +173,65 @@ fn put_report(report: Report, buf: &mut [u8]) -> Put
     }
 }
 
+// The exclusive-or of bytes.
+pub fn sum(bytes: &[u8]) -> u8
+    ensures { λ r. ⌜ r ≡ sumOf (now (bytes .entry)) ⌝ }
+{
+    let mut sum = 0u8;
+    let mut i = 0;
+    while i < bytes.len() {
+        let b = bytes[i];
+        sum = sum ^ b;
+        i += 1;
+    }
+    sum
+}
+
+impl Framing {
+    // What an answer begins with.
+    fn start(self) -> u8
+        ensures { λ r. ⌜ r ≡ startOf self ⌝ }
+    {
+        match self {
+            Framing::Dt => b'/',
+            Framing::Oem => 2,
+        }
+    }
+
+    // What ends an answer, from a place on; and where it ends.
+    fn close(self, buf: &mut [u8], at: usize) -> usize
+        requires { ⌜ at + 3 ≤ length (now buf) ⌝ }
+        ensures { λ r. ⌜ Closed self at (now (buf .entry)) r (now (buf .exit)) ⌝ }
+    {
+        match self {
+            Framing::Dt => {
+                let tail = [3u8, 13, 10];
+                basics::lay(&tail, buf, at);
+                at + 3
+            }
+            Framing::Oem => {
+                let before = sum(&buf[..at]);
+                let tail = [3u8, before ^ 3];
+                basics::lay(&tail, buf, at);
+                at + 2
+            }
+        }
+    }
+}
+
 // The whole answer at the start of the buffer; its other bytes stay as they were.
-pub fn answer(status: u8, report: Report, buf: &mut [u8]) -> Said
-    ensures { λ r. ⌜ Answered status report (now (buf .entry)) r (now (buf .exit)) ⌝ }
+pub fn answer(framing: Framing, status: u8, report: Report, buf: &mut [u8]) -> Said
+    ensures { λ r. ⌜ Answered framing status report (now (buf .entry)) r (now (buf .exit)) ⌝ }
 {
     if buf.len() < 32 {
         return Said::S1;
     }
-    let head = [b'/', b'0', status];
+    let head = [framing.start(), b'0', status];
     basics::lay(&head, buf, 0);
     let Put::Bytes(size) = put_report(report, buf) else {
         return Said::S1;
     };
     let at = 3 + size;
-    let tail = [3u8, 13, 10];
-    basics::lay(&tail, buf, at);
-    let end = at + 3;
+    let end = framing.close(buf, at);
     Said::Answer(end)
 }

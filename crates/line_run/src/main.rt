@@ -1,9 +1,13 @@
-// Bytes given to the receiver, and answers written into lent buffers: prints what came back.
+// Bytes given to the receivers of both framings, and answers written into lent buffers: prints what came back.
 use libc::STDOUT_FILENO;
 use line::Deed;
+use line::Framing;
 use line::Line;
 use line::Report;
 use line::Said;
+use line::dt::Dt;
+use line::oem::Head;
+use line::oem::Oem;
 
 // The line and the data of the frame in hand.
 struct Receiver {
@@ -11,9 +15,9 @@ struct Receiver {
     frame: [u8; 320],
 }
 
-fn fresh() -> Receiver {
+fn fresh(framing: Framing) -> Receiver {
     Receiver {
-        line: Line::fresh(),
+        line: Line::fresh(framing),
         frame: [0; 320],
     }
 }
@@ -103,10 +107,18 @@ fn give_all(start: Receiver, bytes: &[u8]) -> Receiver {
 }
 
 // A fresh receiver hears the bytes.
-fn hear(bytes: &[u8]) {
+fn hear_in(framing: Framing, bytes: &[u8]) {
     show_all(bytes);
     end_line();
-    give_all(fresh(), bytes);
+    give_all(fresh(framing), bytes);
+}
+
+fn hear(bytes: &[u8]) {
+    hear_in(Framing::Dt, bytes);
+}
+
+fn hear_oem(bytes: &[u8]) {
+    hear_in(Framing::Oem, bytes);
 }
 
 // A frame with n data bytes, the digits in turn.
@@ -114,7 +126,7 @@ fn hear_long(n: usize) {
     write(b"/1, ");
     number(n as u64);
     write(b" digits, CR\n");
-    let mut r = give_all(fresh(), b"/1");
+    let mut r = give_all(fresh(Framing::Dt), b"/1");
     let mut i = 0;
     let mut digit = b'0';
     while i < n {
@@ -133,12 +145,29 @@ fn after(digit: u8) -> u8 {
     b'0'
 }
 
-// A letter for the line after a byte that asked for nothing: `.` outside, `s` started, `c` collecting.
+// A letter for the line after a byte that asked for nothing: `.` outside, `s` started, `a` addressed, `c` collecting, `e` ended.
+fn letter_dt(dt: Dt) -> u8 {
+    match dt {
+        Dt::Outside => b'.',
+        Dt::Started => b's',
+        Dt::Collecting(_, _) => b'c',
+    }
+}
+
+fn letter_oem(oem: Oem) -> u8 {
+    match oem {
+        Oem::Outside => b'.',
+        Oem::Started => b's',
+        Oem::Addressed(_) => b'a',
+        Oem::Collecting(_, _) => b'c',
+        Oem::Ended(_, _) => b'e',
+    }
+}
+
 fn letter_of(line: Line) -> u8 {
     match line {
-        Line::Outside => b'.',
-        Line::Started => b's',
-        Line::Collecting(_, _) => b'c',
+        Line::Dt(dt) => letter_dt(dt),
+        Line::Oem(oem) => letter_oem(oem),
     }
 }
 
@@ -192,7 +221,7 @@ fn tell_said(said: Said) {
 // An answer into the first n bytes of a buffer.
 fn answer_first(n: usize, buf: &mut [u8]) -> Said {
     if n <= buf.len() {
-        return line::answer(96, Report::Whole(44000), &mut buf[..n]);
+        return line::answer(Framing::Dt, 96, Report::Whole(44000), &mut buf[..n]);
     }
     Said::S1
 }
@@ -212,10 +241,18 @@ fn answer_into(n: usize) {
 }
 
 // An answer into a buffer that is long enough.
-fn answer(status: u8, report: Report) {
+fn answer_in(framing: Framing, status: u8, report: Report) {
     let mut buf = [b'-'; 33];
-    tell_said(line::answer(status, report, &mut buf));
+    tell_said(line::answer(framing, status, report, &mut buf));
     show_buffer(&buf);
+}
+
+fn answer(status: u8, report: Report) {
+    answer_in(Framing::Dt, status, report);
+}
+
+fn answer_oem(status: u8, report: Report) {
+    answer_in(Framing::Oem, status, report);
 }
 
 fn status(ready: bool, code: u8) {
@@ -257,15 +294,15 @@ fn long_frames() {
 
 fn tables() {
     write(b"Each byte value outside a frame\n");
-    table(Line::Outside);
+    table(Line::Dt(Dt::Outside));
     write(b"after the slash\n");
-    table(Line::Started);
+    table(Line::Dt(Dt::Started));
     write(b"in a frame\n");
-    table(Line::Collecting(b'1', 319));
+    table(Line::Dt(Dt::Collecting(b'1', 319)));
     write(b"in a frame with 320 data bytes\n");
-    table(Line::Collecting(b'1', 320));
+    table(Line::Dt(Dt::Collecting(b'1', 320)));
     write(b"in a frame with more\n");
-    table(Line::Collecting(b'1', 321));
+    table(Line::Dt(Dt::Collecting(b'1', 321)));
 }
 
 fn answers() {
@@ -296,10 +333,66 @@ fn statuses() {
     status(false, 16);
 }
 
+// Source 002's examples, and what drops a frame.
+fn oem_frames() {
+    write(b"OEM: frames and damaged frames\n");
+    hear_oem(b"\x021\x30U41R\x03\x02");
+    hear_oem(b"\x021\x30ZR\x03\x08");
+    hear_oem(b"\x021\x30A300R\x03\x20");
+    hear_oem(b"\x021\x30\x03\x00");
+    hear_oem(b"\x021\x37Q\x03\x56");
+    hear_oem(b"\x021\x38Q\x03\x59");
+    hear_oem(b"\x021\x2fQ\x03\x4e");
+    hear_oem(b"\x022\x30Q\x03\x52");
+    hear_oem(b"\x021\x30Q\x03\x50");
+    hear_oem(b"\x021\x30Q\x03\x51\x021\x31f\x03\x67");
+    hear_oem(b"\x021\x30Q\x021\x30f\x03\x66");
+    hear_oem(b"\x02\x03\x01\x021\x03\x30");
+    hear_oem(b"\x021\x30Q\r\x03\x5c");
+    hear_oem(b"\x021\x30A5/1Q\x03\x3b");
+    hear_oem(b"\x021\x30\x03\x021\x30Q\x03\x51\x021\x30Q\x03\x51");
+}
+
+// A frame in hand with the sum of `02 31 30`.
+fn head() -> Head {
+    Head {
+        address: b'1',
+        sequence: b'0',
+        sum: 3,
+    }
+}
+
+fn oem_tables() {
+    write(b"OEM: each byte value outside a frame\n");
+    table(Line::Oem(Oem::Outside));
+    write(b"after 02h\n");
+    table(Line::Oem(Oem::Started));
+    write(b"after the address\n");
+    table(Line::Oem(Oem::Addressed(b'1')));
+    write(b"in a frame\n");
+    table(Line::Oem(Oem::Collecting(head(), 319)));
+    write(b"in a frame with 320 data bytes\n");
+    table(Line::Oem(Oem::Collecting(head(), 320)));
+    write(b"after 03h, with the sum of 03h to come\n");
+    table(Line::Oem(Oem::Ended(head(), 0)));
+}
+
+fn oem_answers() {
+    write(b"OEM: answers\n");
+    answer_oem(64, Report::Nothing);
+    answer_oem(96, Report::Nothing);
+    answer_oem(98, Report::Character(b'B'));
+    answer_oem(96, Report::Whole(44000));
+    answer_oem(99, Report::Thousandths(4294967295));
+}
+
 fn main() {
     frames();
     long_frames();
     tables();
     answers();
     statuses();
+    oem_frames();
+    oem_tables();
+    oem_answers();
 }

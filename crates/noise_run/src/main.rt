@@ -1,17 +1,17 @@
-// Noise and damaged frames, each followed by a whole frame, to one receiver; the same whole frames to fresh receivers. Prints how often both read the same, and as it was sent.
+// Noise and damaged DT frames, each followed by a whole frame, to one receiver; the same whole frames to fresh receivers. Prints how often both read the same, and as it was sent.
 use libc::STDOUT_FILENO;
-use line::Line;
+use line::dt::Dt;
 ghost use Prim.Native.Nat.{_<_};
 
-// The line and the data of the frame in hand.
+// The receiver's state and the data of the frame in hand.
 struct Receiver {
-    line: Line,
+    line: Dt,
     frame: [u8; 320],
 }
 
 fn fresh() -> Receiver {
     Receiver {
-        line: Line::fresh(),
+        line: Dt::Outside,
         frame: [0; 320],
     }
 }
@@ -20,7 +20,7 @@ fn give(r: Receiver, b: u8) -> Receiver {
     let line = r.line;
     let mut frame = r.frame;
     let heard = line.hear(b);
-    let next = heard.line;
+    let next = heard.dt;
     let deed = heard.deed;
     line::keep(&mut frame, deed, b);
     Receiver { line: next, frame }
@@ -114,19 +114,19 @@ fn hear_noise(start: Receiver, seed: u32, n: usize) -> Receiver {
 }
 
 // What a receiver has in hand: to whom, and how many data bytes, 321 for more than 320.
-fn address_in(line: Line) -> u8 {
+fn address_in(line: Dt) -> u8 {
     match line {
-        Line::Outside => 0,
-        Line::Started => 0,
-        Line::Collecting(address, _) => address,
+        Dt::Outside => 0,
+        Dt::Started => 0,
+        Dt::Collecting(address, _) => address,
     }
 }
 
-fn count_in(line: Line) -> usize {
+fn count_in(line: Dt) -> usize {
     match line {
-        Line::Outside => 0,
-        Line::Started => 0,
-        Line::Collecting(_, count) => count,
+        Dt::Outside => 0,
+        Dt::Started => 0,
+        Dt::Collecting(_, count) => count,
     }
 }
 

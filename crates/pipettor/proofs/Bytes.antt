@@ -18,7 +18,8 @@ use Rattle.text.proofs.Strings.{a-text-stands-in-front}
 use Rattle.line.specs.declared.Deed.{Deed}
 use Rattle.line.specs.declared.Deed.the-variants as W
 use Rattle.line.specs.declared.Heard.{Heard}
-use Rattle.line.specs.Wire.{hearOf, keepOf}
+use Rattle.line.specs.declared.Framing.{Framing}
+use Rattle.line.specs.Wire.{framingOf, hearOf, keepOf}
 use Rattle.machine.specs.declared.step.Core.{Core}
 use Rattle.machine.specs.declared.act.Done.{Done}
 use Rattle.machine.specs.Valid.{Valid}
@@ -92,12 +93,12 @@ module _ (k : Controller) (b : ℕ) where
   short buf h = rw (lt-ltb (length buf) 32 h)
 
   pub heard :
-      (buf buf′ : List ℕ) (h : Heard) (frame squeezed text : List ℕ) (got : Got) (task : Task) (n : ℕ) (o : Outcome) (r : Done) (ready : Bool) (s : Said) (ours : ℕ) →
+      (buf buf′ : List ℕ) (h : Heard) (frame squeezed text : List ℕ) (got : Got) (task : Task) (n : ℕ) (o : Outcome) (r : Done) (ready : Bool) (s : Said) (ours : ℕ) (f : Framing) →
       32 ≤ length buf → ours ≡ letterOf (k .address) → h ≡ hearOf (k .line) b → frame ≡ keepOf (k .frame) (h .deed) b → Gotten ours (h .deed) frame got squeezed →
       task ≡ taskOf got → n ≡ sizeOf got → ((tip : Bool) → acted text tip (r .core) (r .verdict) ≡ performedOf task (take n squeezed) (device (k .device .text) tip (k .device .core)) .next) →
-      o ≡ outcomeOf got (k .address) (r .verdict) (k .device .tip) (k .device .core) → ready ≡ readyOf (r .core) → Spoken o ready buf s buf′ →
+      o ≡ outcomeOf got (k .address) (r .verdict) (k .device .tip) (k .device .core) → ready ≡ readyOf (r .core) → f ≡ framingOf (k .line) → Spoken f o ready buf s buf′ →
       after (reply (record { address = k .address; line = h .line; frame = squeezed; device = device text (k .device .tip) (r .core) }) s) buf′ ≡ byteOf k b buf .next
   unfolding byteOf heardOf dealtOf
-  heard buf buf′ h frame squeezed text got task n o r ready s ours l e0 e1 e2 e3 e4 e5 e6 e7 e8 e9 =
-      let told : Spoken (outcomeOf got (k .address) (r .verdict) (k .device .tip) (k .device .core)) (readyOf (r .core)) buf s buf′ = rw (e7, e8) at e9 in
+  heard buf buf′ h frame squeezed text got task n o r ready s ours f l e0 e1 e2 e3 e4 e5 e6 e7 e8 ef e9 =
+      let told : Spoken (framingOf (k .line)) (outcomeOf got (k .address) (r .verdict) (k .device .tip) (k .device .core)) (readyOf (r .core)) buf s buf′ = rw (e7, e8, ef) at e9 in
       simp (le-ltb (length buf) 32 l, ← e0, ← e1, ← e2, ← e3 .got, ← e3 .left, ← e4, ← e5, ← e6 (k .device .tip), told .said, told .left)

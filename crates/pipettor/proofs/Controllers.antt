@@ -2,7 +2,9 @@
 use mathlib.Core.Path.{_≡_}
 use Prim.Native.Nat.{ℕ}
 use lib.ListN.{replicate}
-use Rattle.line.specs.declared.Line.the-variants.{Outside}
+use Rattle.line.specs.declared.Framing.{Framing}
+use Rattle.line.specs.declared.Line.{Line}
+use Rattle.line.specs.Wire.{freshLine}
 use Rattle.motion.specs.declared.Sense.{Sense}
 use Rattle.machine.specs.declared.Device.{Device}
 use Rattle.machine.specs.declared.Turned.{Turned}
@@ -13,9 +15,9 @@ use Rattle.pipettor.specs.declared.Controller.{Controller}
 use Rattle.pipettor.specs.declared.Ticked.{Ticked}
 use Rattle.pipettor.specs.Controller.{on, madeOf, ticked, tickedOf, stoppedOf, advancedOf, runOf}
 
-pub is-made : (a : Address) (d : Device) → d ≡ freshOf .next → record { address = a; line = Outside; frame = replicate 320 0; device = d } ≡ madeOf a .next
+pub is-made : (f : Framing) (a : Address) (d : Device) (l : Line) → d ≡ freshOf .next → l ≡ freshLine f → record { address = a; line = l; frame = replicate 320 0; device = d } ≡ madeOf f a .next
 unfolding madeOf
-is-made a d e = rw e
+is-made f a d l e h = rw (e, h)
 
 pub is-stopped : (k r : Controller) (d : Device) → r ≡ on d k → d ≡ haltedOf (k .device) .next → r ≡ stoppedOf k .next
 unfolding stoppedOf

@@ -6,7 +6,8 @@ use native.Mathlib.Omega.{arith}
 use lib.Dec.{ltb}
 use lib.ListN.{length, take}
 use Rattle.basics.proofs.Choice.{by}
-use Rattle.line.specs.Wire.{hearOf, keepOf}
+use Rattle.line.specs.declared.Framing.{Framing}
+use Rattle.line.specs.Wire.{hearOf, keepOf, beforeFrame}
 use Rattle.line.proofs.Receiving.{feed-long}
 use Rattle.motion.specs.declared.Sense.{Sense}
 use Rattle.motion.specs.Events.{Turn}
@@ -29,7 +30,7 @@ use Rattle.pipettor.specs.Address.{letterOf}
 use Rattle.pipettor.specs.Valid.{Valid}
 use Rattle.pipettor.specs.Byte.{After, gotOf, squeezedOf, taskOf, sizeOf, performedOf, dealtOf, heardOf, byteOf}
 use Rattle.pipettor.specs.Controller.{ticked, madeOf, tickedOf, stoppedOf, advancedOf, runOf}
-use Rattle.pipettor.specs.Listening.{beforeCr, at, listenedOf}
+use Rattle.pipettor.specs.Listening.{at, listenedOf}
 use Rattle.pipettor.proofs.Bytes.{kept-length, squeezed-length}
 
 -- the arrays have the lengths of their types
@@ -41,9 +42,9 @@ pub ready-of : (k : Controller) → length (k .device .text) ≡ 256 → Valid k
 ready-of k long v = record { valid = v .core; long = long }
 
 -- made
-pub made-is-valid : (a : Address) → Valid (madeOf a .next)
+pub made-is-valid : (f : Framing) (a : Address) → Valid (madeOf f a .next)
 unfolding madeOf freshOf
-made-is-valid a = record { core = record { body = fresh-ok; course = record { len = omega arith; state = tt; error = omega arith } } }
+made-is-valid f a = record { core = record { body = fresh-ok; course = record { len = omega arith; state = tt; error = omega arith } } }
 
 module _ (k : Controller) (v : Valid k) where
   pub tick-keeps : (s : Sense) → Valid (tickedOf s k .next .controller)
@@ -103,7 +104,7 @@ module _ (k : Controller) (b : ℕ) (buf : List ℕ) (s : Sized k) (v : Valid k)
   pub byte-keeps-sizes : Sized (byteOf k b buf .next .reply .controller)
   byte-keeps-sizes = record { frame = frame-keeps; text = byte-keeps-text k b buf (s .text) v }
 
--- bytes before a CR
+-- bytes listened to
 module _ (k : Controller) (bytes : List ℕ) where
   pub listen-keeps-valid : Valid k → Valid (listenedOf k bytes .controller)
   unfolding listenedOf
@@ -111,4 +112,4 @@ module _ (k : Controller) (bytes : List ℕ) where
 
   pub listen-keeps-sizes : Sized k → Sized (listenedOf k bytes .controller)
   unfolding listenedOf
-  listen-keeps-sizes s = record { frame = feed-long (at (k .line) (k .frame)) (beforeCr bytes) ∙ s .frame; text = s .text }
+  listen-keeps-sizes s = record { frame = feed-long (at (k .line) (k .frame)) (beforeFrame (k .line) bytes) ∙ s .frame; text = s .text }

@@ -3,6 +3,7 @@ use mathlib.Core.Path.{_≡_}
 use mathlib.Core.List.{List}
 use Prim.Native.Nat.{ℕ, _<_}
 use lib.ListN.{length}
+use Rattle.line.specs.declared.Framing.{Framing}
 use Rattle.motion.specs.declared.Sense.{Sense}
 use Rattle.machine.specs.Device.{device}
 use Rattle.machine.specs.Valid as Machine
@@ -20,8 +21,8 @@ use Rattle.pipettor.specs.Listening.{listenedOf}
 use Rattle.pipettor.proofs.Bytes.{short}
 use Rattle.pipettor.proofs.Keeps.{made-is-valid, tick-keeps, stop-keeps-valid, advance-keeps, run-keeps, listen-keeps-valid}
 
-pub made-returns : (a : Address) (r : Controller) → r ≡ madeOf a .next → Returns r (madeOf a .next) r
-made-returns a r e = record { is = e; again = rw e (made-is-valid a) }
+pub made-returns : (f : Framing) (a : Address) (r : Controller) → r ≡ madeOf f a .next → Returns r (madeOf f a .next) r
+made-returns f a r e = record { is = e; again = rw e (made-is-valid f a) }
 
 module _ (k : Controller) where
   pub tick-returns : (s : Sense) (r : Ticked) → Valid k → r ≡ tickedOf s k .next → Returns r (tickedOf s k .next) (r .controller)

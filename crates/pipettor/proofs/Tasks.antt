@@ -19,6 +19,7 @@ use Rattle.line.specs.declared.Report.{Report}
 use Rattle.line.specs.declared.Report.the-variants.{Nothing}
 use Rattle.line.specs.declared.Said as Line
 use Rattle.line.specs.declared.Said.the-variants as L
+use Rattle.line.specs.declared.Framing.{Framing}
 use Rattle.line.specs.Answer.{statusOf, answerOf, Answered}
 use Rattle.machine.specs.declared.step.Core.{Core}
 use Rattle.buffer.specs.declared.order.Action.{Action}
@@ -107,12 +108,12 @@ unfolding outcomeOf
 outcome-report d q a ours v tip c t r p l k e = rw (p, ← l, ← k) e
 
 -- what is said
-pub spoken-case : (o j : Outcome) (ready : Bool) (before : List ℕ) (r : Said) (after : List ℕ) → o ≡ j → Spoken j ready before r after → Spoken o ready before r after
-spoken-case o j ready before r after p e = rw p e
+pub spoken-case : (f : Framing) (o j : Outcome) (ready : Bool) (before : List ℕ) (r : Said) (after : List ℕ) → o ≡ j → Spoken f j ready before r after → Spoken f o ready before r after
+spoken-case f o j ready before r after p e = rw p e
 
-pub mute : (ready : Bool) (buf : List ℕ) → Spoken Mute ready buf Silent buf
+pub mute : (f : Framing) (ready : Bool) (buf : List ℕ) → Spoken f Mute ready buf Silent buf
 unfolding saidOf writtenOf
-mute ready buf = let t = ltb (length buf) 32 in record { said = either t Silent; left = either t buf }
+mute f ready buf = let t = ltb (length buf) 32 in record { said = either t Silent; left = either t buf }
   where
     either : {A : Type 0} (t : Bool) (a : A) → a ≡ (if t then a else a)
     either true a = refl
@@ -127,15 +128,15 @@ either-way : (t : Bool) (n : ℕ) → passedOn (if t then L.S1 else L.Answer n) 
 either-way true n = refl
 either-way false n = refl
 
-module _ (report : Report) (code status : ℕ) (ready : Bool) (before after : List ℕ) (s : Line.Said) (q : status ≡ statusOf ready code) (a : Answered status report before s after) where
-  spoken : (r : Said) → passedOn s ≡ r → Spoken (Tell report code) ready before r after
+module _ (f : Framing) (report : Report) (code status : ℕ) (ready : Bool) (before after : List ℕ) (s : Line.Said) (q : status ≡ statusOf ready code) (a : Answered f status report before s after) where
+  spoken : (r : Said) → passedOn s ≡ r → Spoken f (Tell report code) ready before r after
   unfolding saidOf writtenOf
   spoken r e =
-      let long = length (answerOf status report) in
+      let long = length (answerOf f status report) in
       record { said = rw (← q) (sym e ∙ ap passedOn (a .said) ∙ either-way (ltb (length before) 32) long); left = rw (← q) (a .left) }
 
-  pub says : (n : ℕ) → s ≡ L.Answer n → Spoken (Tell report code) ready before (Answer n) after
+  pub says : (n : ℕ) → s ≡ L.Answer n → Spoken f (Tell report code) ready before (Answer n) after
   says n e = spoken (Answer n) (ap passedOn e)
 
-  pub says-short : s ≡ L.S1 → Spoken (Tell report code) ready before S1 after
+  pub says-short : s ≡ L.S1 → Spoken f (Tell report code) ready before S1 after
   says-short e = spoken S1 (ap passedOn e)

@@ -21,7 +21,8 @@ use Rattle.line.specs.declared.Report.{Report}
 use Rattle.line.specs.declared.Report.the-variants.{Nothing}
 use Rattle.line.specs.declared.Deed.{Deed}
 use Rattle.line.specs.declared.Deed.the-variants as W
-use Rattle.line.specs.Wire.{hearOf, keepOf}
+use Rattle.line.specs.declared.Framing.{Framing}
+use Rattle.line.specs.Wire.{framingOf, hearOf, keepOf}
 use Rattle.line.specs.Answer.{statusOf, answerOf}
 use Rattle.motion.specs.Events.{Turn, quiet}
 use Rattle.machine.specs.declared.step.Core.{Core}
@@ -129,22 +130,23 @@ outcomeOf (G.Data (D.Text n run)) address v tip c = Tell Nothing (verdictNumber 
 outcomeOf (G.Data (D.Wrong m)) address v tip c = Tell Nothing (verdictNumber v)
 outcomeOf (G.Data D.TooLong) address v tip c = Tell Nothing (verdictNumber v)
 
-unfoldable pub saidOf : Outcome → Bool → Said
-saidOf Mute ready = Silent
-saidOf (Tell report code) ready = Answer (length (answerOf (statusOf ready code) report))
+-- how it is written, in the framing of the line: all that the framing decides of an answer
+unfoldable pub saidOf : Framing → Outcome → Bool → Said
+saidOf f Mute ready = Silent
+saidOf f (Tell report code) ready = Answer (length (answerOf f (statusOf ready code) report))
 
-unfoldable pub writtenOf : Outcome → Bool → List ℕ → List ℕ
-writtenOf Mute ready buf = buf
-writtenOf (Tell report code) ready buf = over (answerOf (statusOf ready code) report) 0 buf
+unfoldable pub writtenOf : Framing → Outcome → Bool → List ℕ → List ℕ
+writtenOf f Mute ready buf = buf
+writtenOf f (Tell report code) ready buf = over (answerOf f (statusOf ready code) report) 0 buf
 
 -- an answer that finds less than 32 bytes isn't written
 abbrev pub unsaid : Outcome → Said
 unsaid Mute = Silent
 unsaid (Tell report code) = S1
 
-pub record Spoken (o : Outcome) (ready : Bool) (before : List ℕ) (r : Said) (after : List ℕ) : Type 0 where
-  pub said : r ≡ (if ltb (length before) 32 then unsaid o else saidOf o ready)
-  pub left : after ≡ (if ltb (length before) 32 then before else writtenOf o ready before)
+pub record Spoken (f : Framing) (o : Outcome) (ready : Bool) (before : List ℕ) (r : Said) (after : List ℕ) : Type 0 where
+  pub said : r ≡ (if ltb (length before) 32 then unsaid o else saidOf f o ready)
+  pub left : after ≡ (if ltb (length before) 32 then before else writtenOf f o ready before)
 
 -- a controller with what was said, and the answer buffer
 pub record After : Type 0 where
@@ -164,12 +166,12 @@ pub record Exchange : Type 0 where
   pub buffer : List ℕ
 
 -- "Ready or busy is taken after the frame has acted."
-unfoldable pub dealtOf : Got → List ℕ → Address → Device → List ℕ → Turn Exchange
-dealtOf got added a d buf =
+unfoldable pub dealtOf : Framing → Got → List ℕ → Address → Device → List ℕ → Turn Exchange
+dealtOf f got added a d buf =
     let turn = performedOf (taskOf got) added d in
     let outcome = outcomeOf got a (turn .next .verdict) (d .tip) (d .core) in
     let ready = readyOf (turn .next .device .core) in
-    record { next = record { device = turn .next .device; said = saidOf outcome ready; buffer = writtenOf outcome ready buf }; events = turn .events }
+    record { next = record { device = turn .next .device; said = saidOf f outcome ready; buffer = writtenOf f outcome ready buf }; events = turn .events }
 
 -- a byte that is heard: the receiver, the frame, what it brings, and what comes of that
 unfoldable pub heardOf : Controller → ℕ → List ℕ → Turn After
@@ -179,7 +181,7 @@ heardOf k b buf =
     let frame = keepOf (k .frame) (h .deed) b in
     let got = gotOf ours (h .deed) frame in
     let squeezed = squeezedOf ours (h .deed) frame in
-    let e = dealtOf got (take (sizeOf got) squeezed) (k .address) (k .device) buf in
+    let e = dealtOf (framingOf (k .line)) got (take (sizeOf got) squeezed) (k .address) (k .device) buf in
     record {
       next = after (reply (record { address = k .address; line = h .line; frame = squeezed; device = e .next .device }) (e .next .said)) (e .next .buffer);
       events = e .events;

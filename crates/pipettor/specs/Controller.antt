@@ -2,7 +2,8 @@
 use Prim.Native.Nat.{ℕ}
 use mathlib.Core.Bool.{Bool}
 use lib.ListN.{replicate}
-use Rattle.line.specs.declared.Line.the-variants.{Outside}
+use Rattle.line.specs.declared.Framing.{Framing}
+use Rattle.line.specs.Wire.{freshLine, framingOf}
 use Rattle.motion.specs.declared.Sense.{Sense}
 use Rattle.motion.specs.Events.{Turn}
 use Rattle.machine.specs.declared.Device.{Device}
@@ -17,8 +18,9 @@ use Rattle.pipettor.specs.declared.Ran.{Ran}
 abbrev pub on : Device → Controller → Controller
 on d k = record { address = k .address; line = k .line; frame = k .frame; device = d }
 
-unfoldable pub madeOf : Address → Turn Controller
-madeOf a = record { next = record { address = a; line = Outside; frame = replicate 320 0; device = freshOf .next }; events = freshOf .events }
+-- "chosen at making" (02, W-204): the framing, and the address
+unfoldable pub madeOf : Framing → Address → Turn Controller
+madeOf f a = record { next = record { address = a; line = freshLine f; frame = replicate 320 0; device = freshOf .next }; events = freshOf .events }
 
 -- a controller after ticks, and what they tell
 abbrev pub ticked : Turned → Controller → Ticked
@@ -35,6 +37,9 @@ advancedOf n s k = ticked (advanceOf n s (k .device)) k
 
 unfoldable pub runOf : ℕ → Sense → Controller → Ran
 runOf n s k = let r = ranOf n s (k .device) in record { ticked = ticked (r .turned) k; used = r .used }
+
+abbrev pub framingIs : Controller → Framing
+framingIs k = framingOf (k .line)
 
 -- "It is ready in all but Running."
 abbrev pub readyIs : Controller → Bool

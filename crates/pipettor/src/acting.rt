@@ -5,6 +5,7 @@ use buffer::order::Action;
 use command::refusal::Refusal;
 use command::refusal::Verdict;
 use line::Deed;
+use line::Framing;
 use line::Report;
 use machine::act::Done;
 use machine::step::Core;
@@ -200,21 +201,21 @@ impl Got {
 
 impl Outcome {
     // Into the lent buffer.
-    pub fn say(self, ready: bool, buf: &mut [u8]) -> Said
-        ensures { λ r. ⌜ Spoken self ready (now (buf .entry)) r (now (buf .exit)) ⌝ }
+    pub fn say(self, framing: Framing, ready: bool, buf: &mut [u8]) -> Said
+        ensures { λ r. ⌜ Spoken framing self ready (now (buf .entry)) r (now (buf .exit)) ⌝ }
     {
         match self {
             Outcome::Mute => Said::Silent,
-            Outcome::Tell(report, code) => speak(report, code, ready, buf),
+            Outcome::Tell(report, code) => speak(framing, report, code, ready, buf),
         }
     }
 }
 
-fn speak(report: Report, code: u8, ready: bool, buf: &mut [u8]) -> Said
-    ensures { λ r. ⌜ Spoken (Outcome.Tell report code) ready (now (buf .entry)) r (now (buf .exit)) ⌝ }
+fn speak(framing: Framing, report: Report, code: u8, ready: bool, buf: &mut [u8]) -> Said
+    ensures { λ r. ⌜ Spoken framing (Outcome.Tell report code) ready (now (buf .entry)) r (now (buf .exit)) ⌝ }
 {
     let status = line::status(ready, code);
-    match line::answer(status, report, buf) {
+    match line::answer(framing, status, report, buf) {
         line::Said::Answer(n) => Said::Answer(n),
         line::Said::S1 => Said::S1,
     }

@@ -62,7 +62,7 @@ impl Parts {
         let after = done.core;
         let verdict = done.verdict;
         let outcome = got.outcome(address, verdict, self.tip, core);
-        let said = outcome.say(after.ready(), buf);
+        let said = outcome.say(line.framing(), after.ready(), buf);
         Spoke {
             parts: Parts {
                 address,

@@ -5,6 +5,7 @@ pub mod lent;
 
 use address::Address;
 use lent::Parts;
+use line::Framing;
 use line::Line;
 use machine::Device;
 use machine::Turned;
@@ -15,8 +16,8 @@ ghost use mathlib.Core.Path.{_≡_};
 ghost use Rattle.pipettor.specs.Valid.{Valid};
 ghost use Rattle.pipettor.specs.Returns.{Returns, Keeps};
 ghost use Rattle.pipettor.specs.Byte.{after, byteOf};
-ghost use Rattle.pipettor.specs.Controller.{on, madeOf, ticked, tickedOf, stoppedOf, advancedOf, runOf, readyIs};
-ghost use Rattle.pipettor.specs.Listening.{UpToCr, listenedOf};
+ghost use Rattle.pipettor.specs.Controller.{on, madeOf, ticked, tickedOf, stoppedOf, advancedOf, runOf, framingIs, readyIs};
+ghost use Rattle.pipettor.specs.Listening.{UpToFrame, listenedOf};
 
 // The receiver's line and the frame in hand; the buffer, its text and the plunger.
 pub struct Controller {
@@ -61,19 +62,19 @@ struct Taken {
     n: usize,
 }
 
-// The line and the frame in hand after the bytes before a CR.
+// The line and the frame in hand after the bytes before one that completes a frame.
 fn receive(start: Line, frame: &mut [u8; 320], bytes: &[u8]) -> Taken
-    ensures { λ r. ⌜ UpToCr start (now (frame .entry)) (now (bytes .entry)) r (now (frame .exit)) ⌝ }
+    ensures { λ r. ⌜ UpToFrame start (now (frame .entry)) (now (bytes .entry)) r (now (frame .exit)) ⌝ }
 {
     let mut line = start;
     let mut n = 0;
     while n < bytes.len() {
         let b = bytes[n];
-        if b == 13 {
-            return Taken { line, n };
-        }
         let heard = line.hear(b);
         let deed = heard.deed;
+        if deed.is_whole() {
+            return Taken { line, n };
+        }
         line::keep(frame, deed, b);
         line = heard.line;
         n += 1;
@@ -82,13 +83,13 @@ fn receive(start: Line, frame: &mut [u8; 320], bytes: &[u8]) -> Taken
 }
 
 impl Controller {
-    pub fn fresh(address: Address) -> Controller
-        ensures { λ r. ⌜ Returns r (madeOf address .next) r ⌝ }
+    pub fn fresh(framing: Framing, address: Address) -> Controller
+        ensures { λ r. ⌜ Returns r (madeOf framing address .next) r ⌝ }
     {
         let device = Device::fresh();
         Controller {
             address,
-            line: Line::Outside,
+            line: Line::fresh(framing),
             frame: [0u8; 320],
             device,
         }
@@ -132,7 +133,7 @@ impl Controller {
         }
     }
 
-    // Bytes up to a CR, which is left: none of them completes a frame, and nothing is answered.
+    // Bytes up to one that completes a frame, which is left: none of those taken does, and nothing is answered.
     pub fn listen(self, bytes: &[u8]) -> Listened
         ensures { λ r. ⌜ Keeps r (listenedOf self (now (bytes .entry))) self (r .controller) ⌝ }
     {
@@ -210,6 +211,14 @@ impl Controller {
             ticked: self.ticked(turned),
             used,
         }
+    }
+
+    // The framing it was made with.
+    pub fn framing(self) -> Framing
+        ensures { λ r. ⌜ r ≡ framingIs self ⌝ }
+    {
+        let line = self.line;
+        line.framing()
     }
 
     pub fn ready(self) -> bool

@@ -1,4 +1,5 @@
 // The controller called as a host calls it: every address, bytes by themselves with marked and with short buffers, ticks between them, noise, stop in every state, runs that are too long and runs that are counted. Prints what came back.
+use line::Framing;
 use machine::Used;
 use motion::Sense;
 use pipettor::Controller;
@@ -186,7 +187,7 @@ fn talk(c: Controller, bytes: &[u8]) -> Controller
 fn made(a: Address) -> Controller
     ensures { λ r. ⌜ Valid r ⌝ }
 {
-    Controller::fresh(a)
+    Controller::fresh(Framing::Dt, a)
 }
 
 // A frame but for its CR, by `listen`.

@@ -20,7 +20,8 @@ use Rattle.basics.proofs.Laying.{laid, over-over}
 use Rattle.decimal.specs.Digits.{digitsOf, longOf, fixedOf}
 use Rattle.decimal.proofs.PlaceValue.{digits-at-most-ten, long-at-most-twenty}
 use Rattle.line.specs.Answer.{lf}
-use Rattle.desk.specs.Desk.{printedOf}
+use Rattle.line.specs.declared.Framing.{Framing}
+use Rattle.desk.specs.Desk.{tailSize, printedOf}
 use Rattle.desk.specs.Hex.{digitFor, spaced, hexOf}
 use Rattle.machine.specs.declared.Used.{Used}
 use Rattle.machine.specs.declared.Used.the-variants.{Ticks, S3}
@@ -136,30 +137,30 @@ module _ (u : Used) (p x at : ℕ) (asked : Bool) (out : List ℕ) (room : at + 
       rw e (both 11 38 49 (digitsOf n ++ chars " ") (placeOf p x asked) at b c out two three (omega arith) (omega arith) front l)
 
 -- status and data
-printed-short : (n : ℕ) (answer : List ℕ) → length (printedOf n answer) ≤ length answer
+printed-short : (f : Framing) (n : ℕ) (answer : List ℕ) → length (printedOf f n answer) ≤ length answer
 unfolding printedOf
-printed-short n answer =
+printed-short f n answer =
     let rest = length-drop 2 answer in
-    let part = length-take (n - 5) (drop 2 answer) in
+    let part = length-take (n - (2 + tailSize f)) (drop 2 answer) in
     by (λ (t : List ℕ). length t ≤ length answer) (leb n (length answer)) (λ e. omega (arith, part, rest)) (λ e. omega arith)
 
-module _ (said : Said) (answer : List ℕ) (v : length answer ≤ 64) (at : ℕ) (out : List ℕ) (room : at + 65 ≤ length out) where
-  pub shows-silence : (r : ℕ) (after : List ℕ) → said ≡ Silent → Prints 2 (ended (45 ∷ [])) at out r after → Prints 65 (shownOf said answer) at out r after
+module _ (f : Framing) (said : Said) (answer : List ℕ) (v : length answer ≤ 64) (at : ℕ) (out : List ℕ) (room : at + 65 ≤ length out) where
+  pub shows-silence : (r : ℕ) (after : List ℕ) → said ≡ Silent → Prints 2 (ended (45 ∷ [])) at out r after → Prints 65 (shownOf f said answer) at out r after
   unfolding shownOf
   shows-silence r after e q = rw e (shorter 2 65 (ended (chars "-")) at r out after (omega arith) q)
 
-  pub shows-s1 : (r : ℕ) (after : List ℕ) → said ≡ S1 → Prints 3 (ended (83 ∷ 49 ∷ [])) at out r after → Prints 65 (shownOf said answer) at out r after
+  pub shows-s1 : (r : ℕ) (after : List ℕ) → said ≡ S1 → Prints 3 (ended (83 ∷ 49 ∷ [])) at out r after → Prints 65 (shownOf f said answer) at out r after
   unfolding shownOf
   shows-s1 r after e q = rw e (shorter 3 65 (ended (chars "S1")) at r out after (omega arith) q)
 
-  module _ (n : ℕ) (shown : List ℕ) (p : shown ≡ printedOf n answer) where
+  module _ (n : ℕ) (shown : List ℕ) (p : shown ≡ printedOf f n answer) where
     pub shown-fits : at + length shown + 1 ≤ length out
-    shown-fits = let s : length shown ≤ length answer = rw p (printed-short n answer) in omega arith
+    shown-fits = let s : length shown ≤ length answer = rw p (printed-short f n answer) in omega arith
 
-    pub shows : (r : ℕ) (after : List ℕ) → said ≡ Answer n → Prints (length shown + 1) (ended shown) at out r after → Prints 65 (shownOf said answer) at out r after
+    pub shows : (r : ℕ) (after : List ℕ) → said ≡ Answer n → Prints (length shown + 1) (ended shown) at out r after → Prints 65 (shownOf f said answer) at out r after
     unfolding shownOf
     shows r after e q =
-        let s : length shown ≤ length answer = rw p (printed-short n answer) in
+        let s : length shown ≤ length answer = rw p (printed-short f n answer) in
         rw (e, ← p) (shorter (length shown + 1) 65 (ended shown) at r out after (omega arith) q)
 
 -- bytes in hex

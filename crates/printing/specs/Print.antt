@@ -9,6 +9,7 @@ use Rattle.basics.specs.Choice.{if_then_else_}
 use Rattle.basics.specs.Bytes.{chars, every}
 use Rattle.basics.specs.Lay.{over}
 use Rattle.decimal.specs.Digits.{digitsOf, longOf}
+use Rattle.line.specs.declared.Framing.{Framing}
 use Rattle.line.specs.Answer.{lf}
 use Rattle.desk.specs.Desk.{printedOf}
 use Rattle.desk.specs.Hex.{digitFor, hexOf}
@@ -22,10 +23,10 @@ abbrev pub ended : List ℕ → List ℕ
 ended text = text ++ (lf ∷ [])
 
 -- "for a frame, status and data, or `-` if silent"; "`S1` if the buffer lent is too short"
-unfoldable pub shownOf : Said → List ℕ → List ℕ
-shownOf Silent answer = ended (chars "-")
-shownOf (Answer n) answer = ended (printedOf n answer)
-shownOf S1 answer = ended (chars "S1")
+unfoldable pub shownOf : Framing → Said → List ℕ → List ℕ
+shownOf f Silent answer = ended (chars "-")
+shownOf f (Answer n) answer = ended (printedOf f n answer)
+shownOf f S1 answer = ended (chars "S1")
 
 -- the end of a line of ticks: "` eject` at the end of what `t` and `run` print where a tick asked"
 abbrev pub lastOf : Bool → List ℕ

@@ -1,6 +1,7 @@
 // What lines print: laid into the output from a place on. Each function says where it ends.
 use basics::Put;
 use desk::hex;
+use line::Framing;
 use machine::Used;
 use pipettor::Said;
 ghost use Prim.Native.Nat.{_+_, _*_, _≤_};
@@ -86,14 +87,14 @@ pub fn used(used: Used, plunger: u32, exact: u64, asked: bool, out: &mut [u8], a
 }
 
 // Status and data, `-` if silent, or S1.
-pub fn show(said: Said, answer: &[u8], out: &mut [u8], at: usize) -> usize
+pub fn show(framing: Framing, said: Said, answer: &[u8], out: &mut [u8], at: usize) -> usize
     requires { ⌜ length (now answer) ≤ 64 ⌝ }
     requires { ⌜ at + 65 ≤ length (now out) ⌝ }
-    ensures { λ r. ⌜ Prints 65 (shownOf said (now (answer .entry))) at (now (out .entry)) r (now (out .exit)) ⌝ }
+    ensures { λ r. ⌜ Prints 65 (shownOf framing said (now (answer .entry))) at (now (out .entry)) r (now (out .exit)) ⌝ }
 {
     match said {
         Said::Silent => line(b"-", out, at),
-        Said::Answer(n) => line(desk::printed(n, answer), out, at),
+        Said::Answer(n) => line(desk::printed(framing, n, answer), out, at),
         Said::S1 => line(b"S1", out, at),
     }
 }

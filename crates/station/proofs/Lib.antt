@@ -1,3 +1,4 @@
 pub mod Signs
 pub mod Serving
 pub mod Raw
+pub mod Wrapping

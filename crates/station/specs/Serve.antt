@@ -1,19 +1,24 @@
 -- What a line does to a station and what it prints: 01, "The bench program", and the training rig.
-use Prim.Native.Nat.{ℕ, _≤_}
+use Prim.Native.Nat.{ℕ, _+_, _≤_, _<_}
 use mathlib.Core.Path.{_≡_}
 use mathlib.Core.Bool.{Bool, false}
 use mathlib.Core.List.{List, [], _∷_, _++_}
 use lib.Dec.{eqb}
 use lib.ListN.{length, drop, replicate}
 use Rattle.basics.specs.Bytes.{chars}
-use Rattle.line.specs.Wire.{slash, cr}
+use Rattle.basics.specs.Lay.{over}
+use Rattle.line.specs.declared.Framing.{Framing}
+use Rattle.line.specs.declared.Framing.the-variants as F
+use Rattle.line.specs.Dt.{slash, cr}
+use Rattle.line.specs.Oem.{stx, etx}
+use Rattle.line.specs.Wire.{oem, front, lastByte}
 use lib.IntN.{ℤ, pos, negℤ}
 use Rattle.motion.specs.declared.Sense.{Sense}
 use Rattle.motion.specs.Bodies.{sensing, nothingSensed}
 use Rattle.desk.specs.declared.Desk.{Desk}
 use Rattle.desk.specs.declared.Desk.the-variants.{Bench, Rig}
 use Rattle.desk.specs.declared.Quantity.{Quantity}
-use Rattle.desk.specs.declared.Quantity.the-variants.{Ticks, Run, Lend, New, Tip, Press, Minus}
+use Rattle.desk.specs.declared.Quantity.the-variants.{Ticks, Run, Lend, New, Oem, Tip, Press, Minus}
 use Rattle.desk.specs.declared.Asked.{Asked}
 use Rattle.desk.specs.declared.Asked.the-variants.{Send, Number, Stop, Raw, Wrong}
 use Rattle.desk.specs.Desk.{askedOf}
@@ -27,7 +32,7 @@ use Rattle.pipettor.specs.declared.Said.{Said}
 use Rattle.pipettor.specs.declared.Said.the-variants.{Silent, Answer, S1}
 use Rattle.pipettor.specs.Address.{addressOf}
 use Rattle.pipettor.specs.Byte.{After, byteOf}
-use Rattle.pipettor.specs.Controller.{madeOf, advancedOf, runOf, stoppedOf}
+use Rattle.pipettor.specs.Controller.{madeOf, advancedOf, runOf, stoppedOf, framingIs}
 use Rattle.pipettor.specs.Listening.{listenedOf}
 use Rattle.pipettor.specs.Valid.{Valid}
 use Rattle.station.specs.declared.Station.{Station}
@@ -40,7 +45,7 @@ station desk lend sense k = record { desk = desk; lend = lend; sense = sense; co
 
 -- "Address 1"; answer buffers of 32 bytes, no tip and a reading of 0 at first
 abbrev pub atStart : Desk → Station
-atStart desk = station desk 32 nothingSensed (madeOf One .next)
+atStart desk = station desk 32 nothingSensed (madeOf F.Dt One .next)
 
 abbrev pub on : Controller → Station → Station
 on k s = station (s .desk) (s .lend) (s .sense) k
@@ -67,24 +72,48 @@ heardOf b s = toldOf b (blank (s .lend)) s
 abbrev pub after : After → Station → Station
 after a s = on (a .reply .controller) s
 
--- "sends `/`, the text, CR": no frame ends before the CR
+-- what is printed of an answer, in the framing of the controller
 abbrev pub shownBy : After → Station → Served
-shownBy a s = served (after a s) (shownOf (a .reply .said) (a .buffer))
+shownBy a s = served (after a s) (shownOf (framingIs (s .controller)) (a .reply .said) (a .buffer))
 
-unfoldable pub endedOf : Station → Served
-endedOf s = shownBy (heardOf cr s) s
+-- a frame: its first byte, what follows, and its last byte, before which no frame ends
+unfoldable pub endedOf : ℕ → Station → Served
+endedOf last s = shownBy (heardOf last s) s
 
-unfoldable pub goneOn : List ℕ → Station → Served
-goneOn text s = endedOf (on (listenedOf (s .controller) text .controller) s)
+unfoldable pub goneOn : List ℕ → ℕ → Station → Served
+goneOn rest last s = endedOf last (on (listenedOf (s .controller) rest .controller) s)
 
 -- the first byte tells that a buffer is too short
-unfoldable pub sentBy : Said → List ℕ → Station → Served
-sentBy Silent text s = goneOn text s
-sentBy (Answer n) text s = goneOn text s
-sentBy S1 text s = served s (ended (chars "S1"))
+unfoldable pub sentBy : Said → List ℕ → ℕ → Station → Served
+sentBy Silent rest last s = goneOn rest last s
+sentBy (Answer n) rest last s = goneOn rest last s
+sentBy S1 rest last s = served s (ended (chars "S1"))
 
-unfoldable pub sentOf : List ℕ → Station → Served
-sentOf text s = let a = heardOf slash s in sentBy (a .reply .said) text (after a s)
+unfoldable pub sentOf : ℕ → List ℕ → ℕ → Station → Served
+sentOf first rest last s = let a = heardOf first s in sentBy (a .reply .said) rest last (after a s)
+
+-- an OEM frame, but for its sum: "02h, the text's first character as address, 30h, the rest as data, 03h and the right sum"
+abbrev pub wrapped : List ℕ → List ℕ
+wrapped [] = []
+wrapped (a ∷ ds) = front (oem 48) a ds
+
+-- as functions on a lent array promise it: there is an address, and room
+pub record Wrappable (text wire : List ℕ) : Type 0 where
+  pub addressed : 0 < length text
+  pub room : length text + 3 ≤ length wire
+
+pub record Wraps (text before : List ℕ) (r : ℕ) (after : List ℕ) : Type 0 where
+  pub count : r ≡ length (wrapped text)
+  pub left : after ≡ over (wrapped text) 0 before
+
+-- "sends `/`, the text, CR"; in OEM framing as above, and "`> ` alone is `?`"
+unfoldable pub framedBy : Framing → List ℕ → Station → Served
+framedBy F.Dt text s = sentOf slash text cr s
+framedBy F.Oem [] s = served s (ended (chars "?"))
+framedBy F.Oem (a ∷ ds) s = sentOf stx (a ∷ 48 ∷ (ds ++ (etx ∷ []))) (lastByte (oem 48) a ds) s
+
+abbrev pub framedOf : List ℕ → Station → Served
+framedOf text s = framedBy (framingIs (s .controller)) text s
 
 -- where the plunger stands, and the exact position
 unfoldable pub placedOf : Controller → Bool → Station → Served
@@ -124,16 +153,17 @@ tippedOf tip s = sensedOf (sensing tip (s .sense .reading)) s
 abbrev pub pressedOf : ℤ → Station → Served
 pressedOf reading s = sensedOf (sensing (s .sense .tip) reading) s
 
--- "a fresh controller of that address ..; n not in 1 to 9 leaves the old one"
-unfoldable pub madeBy : Given → Station → Served
-madeBy (Is a) s = served (on (madeOf a .next) s) (ended (chars "ok"))
-madeBy S2 s = served s (ended (chars "S2"))
+-- "a fresh controller of that address ..; n not in 1 to 9 leaves the old one"; "`oem n`: as `new n` with OEM framing"
+unfoldable pub madeBy : Framing → Given → Station → Served
+madeBy f (Is a) s = served (on (madeOf f a .next) s) (ended (chars "ok"))
+madeBy f S2 s = served s (ended (chars "S2"))
 
 unfoldable pub numberedOf : Quantity → ℕ → Station → Served
 numberedOf Ticks n s = waitedOf n s
 numberedOf Run n s = ranOf n s
 numberedOf Lend n s = lentOf n s
-numberedOf New n s = madeBy (addressOf n) s
+numberedOf New n s = madeBy F.Dt (addressOf n) s
+numberedOf Oem n s = madeBy F.Oem (addressOf n) s
 numberedOf Tip n s = tippedOf (eqb n 1) s
 numberedOf Press n s = pressedOf (pos n) s
 numberedOf Minus n s = pressedOf (negℤ (pos n)) s
@@ -163,7 +193,7 @@ rawOf bytes s = closed (rawFrom bytes (served s []))
 
 -- by what a line asks
 unfoldable pub didOf : Asked → List ℕ → Station → Served
-didOf Send line s = sentOf (drop 2 line) s
+didOf Send line s = framedOf (drop 2 line) s
 didOf (Number q n) line s = numberedOf q n s
 didOf Stop line s = haltedOf s
 didOf Raw line s = rawOf (bytesIn (drop 2 line)) s

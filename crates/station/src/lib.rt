@@ -3,6 +3,7 @@ use desk::Asked;
 use desk::Desk;
 use desk::Quantity;
 use desk::hex;
+use line::Framing;
 use machine::Used;
 use motion::Sense;
 use pipettor::Controller;
@@ -19,7 +20,7 @@ ghost use Rattle.pipettor.specs.Valid.{Valid};
 ghost use Rattle.pipettor.specs.Address.{addressOf};
 ghost use lib.Dec.{eqb};
 ghost use lib.IntN.{pos, negℤ};
-ghost use Rattle.station.specs.Serve.{on, toldOf, shownBy, addedBy, goneOn, endedOf, sentOf, placedOf, showsAsk, waitedOf, usedUp, ranOf, haltedOf, lentOf, sensedOf, tippedOf, pressedOf, madeBy, numberedOf, saidTo, rawOf, didOf, servedOf, Manned, Starts, Tells, Replies};
+ghost use Rattle.station.specs.Serve.{on, toldOf, shownBy, addedBy, goneOn, endedOf, sentOf, Wrappable, Wraps, framedBy, framedOf, placedOf, showsAsk, waitedOf, usedUp, ranOf, haltedOf, lentOf, sensedOf, tippedOf, pressedOf, madeBy, numberedOf, saidTo, rawOf, didOf, servedOf, Manned, Starts, Tells, Replies};
 
 // Whose lines are taken, how many bytes the answer buffers have, what the host senses, and the controller.
 pub struct Station {
@@ -51,6 +52,20 @@ fn shows(desk: Desk, asked: bool) -> bool
     }
 }
 
+// An OEM frame but for its sum: 02h, the text's first character as address, 30h, the rest as data, 03h. How many bytes it has.
+fn wrap(text: &[u8], wire: &mut [u8]) -> usize
+    requires { ⌜ Wrappable (now text) (now wire) ⌝ }
+    ensures { λ r. ⌜ Wraps (now (text .entry)) (now (wire .entry)) r (now (wire .exit)) ⌝ }
+{
+    let head = [2, text[0], b'0'];
+    basics::lay(&head, wire, 0);
+    basics::lay(&text[1..], wire, 3);
+    let end = text.len() + 2;
+    let tail = [3u8];
+    basics::lay(&tail, wire, end);
+    end + 1
+}
+
 // A number, and the same below 0.
 fn above(n: u32) -> i32
     requires { ⌜ n ≤ 40000 ⌝ }
@@ -71,7 +86,7 @@ impl Station {
     pub fn new(desk: Desk) -> Station
         ensures { λ r. ⌜ Starts desk r ⌝ }
     {
-        let controller = Controller::fresh(Address::One);
+        let controller = Controller::fresh(Framing::Dt, Address::One);
         Station {
             desk,
             lend: 32,
@@ -108,57 +123,59 @@ impl Station {
         }
     }
 
-    // The CR, and what is answered.
-    fn finish_in(self, buf: &mut [u8], out: &mut [u8], at: usize) -> Replied
+    // The last byte of a frame, and what is answered.
+    fn finish_in(self, last: u8, buf: &mut [u8], out: &mut [u8], at: usize) -> Replied
         requires { ⌜ Manned self ⌝ }
         requires { ⌜ length (now buf) ≤ 64 ⌝ }
         requires { ⌜ at + 65 ≤ length (now out) ⌝ }
-        ensures { λ r. ⌜ Replies 65 (shownBy (toldOf 13 (now (buf .entry)) self) self) at (now (out .entry)) r (now (out .exit)) ⌝ }
+        ensures { λ r. ⌜ Replies 65 (shownBy (toldOf last (now (buf .entry)) self) self) at (now (out .entry)) r (now (out .exit)) ⌝ }
     {
-        let told = self.tell(13, buf);
+        let c = self.controller;
+        let framing = c.framing();
+        let told = self.tell(last, buf);
         let said = told.said;
-        let end = printing::show(said, buf, out, at);
+        let end = printing::show(framing, said, buf, out, at);
         let station = told.station;
         Replied { station, end }
     }
 
-    fn finish(self, out: &mut [u8], at: usize) -> Replied
+    fn finish(self, last: u8, out: &mut [u8], at: usize) -> Replied
         requires { ⌜ Manned self ⌝ }
         requires { ⌜ at + 65 ≤ length (now out) ⌝ }
-        ensures { λ r. ⌜ Replies 65 (endedOf self) at (now (out .entry)) r (now (out .exit)) ⌝ }
+        ensures { λ r. ⌜ Replies 65 (endedOf last self) at (now (out .entry)) r (now (out .exit)) ⌝ }
     {
         let mut buf = [0u8; 64];
         let lend = self.lend;
-        self.finish_in(&mut buf[..lend], out, at)
+        self.finish_in(last, &mut buf[..lend], out, at)
     }
 
-    // The text and the CR: no frame ends before that.
-    fn go_on(self, text: &[u8], out: &mut [u8], at: usize) -> Replied
+    // What follows a frame's first byte, and its last: no frame ends before that.
+    fn go_on(self, rest: &[u8], last: u8, out: &mut [u8], at: usize) -> Replied
         requires { ⌜ Manned self ⌝ }
         requires { ⌜ at + 65 ≤ length (now out) ⌝ }
-        ensures { λ r. ⌜ Replies 65 (goneOn (now (text .entry)) self) at (now (out .entry)) r (now (out .exit)) ⌝ }
+        ensures { λ r. ⌜ Replies 65 (goneOn (now (rest .entry)) last self) at (now (out .entry)) r (now (out .exit)) ⌝ }
     {
         let c = self.controller;
-        let fed = c.listen(text);
+        let fed = c.listen(rest);
         let after = fed.controller;
         let begun = self.on(after);
-        begun.finish(out, at)
+        begun.finish(last, out, at)
     }
 
-    // "sends `/`, the text, CR"
-    fn send(self, text: &[u8], out: &mut [u8], at: usize) -> Replied
+    // A frame: its first byte tells that a buffer is too short.
+    fn send(self, first: u8, rest: &[u8], last: u8, out: &mut [u8], at: usize) -> Replied
         requires { ⌜ Manned self ⌝ }
         requires { ⌜ at + 65 ≤ length (now out) ⌝ }
-        ensures { λ r. ⌜ Replies 65 (sentOf (now (text .entry)) self) at (now (out .entry)) r (now (out .exit)) ⌝ }
+        ensures { λ r. ⌜ Replies 65 (sentOf first (now (rest .entry)) last self) at (now (out .entry)) r (now (out .exit)) ⌝ }
     {
         let mut buf = [0u8; 64];
         let lend = self.lend;
-        let told = self.tell(b'/', &mut buf[..lend]);
+        let told = self.tell(first, &mut buf[..lend]);
         let said = told.said;
         let begun = told.station;
         match said {
-            Said::Silent => begun.go_on(text, out, at),
-            Said::Answer(_) => begun.go_on(text, out, at),
+            Said::Silent => begun.go_on(rest, last, out, at),
+            Said::Answer(_) => begun.go_on(rest, last, out, at),
             Said::S1 => {
                 let end = printing::line(b"S1", out, at);
                 Replied {
@@ -166,6 +183,46 @@ impl Station {
                     end,
                 }
             }
+        }
+    }
+
+    // An OEM frame, laid out in a lent array.
+    fn send_in(self, text: &[u8], wire: &mut [u8], out: &mut [u8], at: usize) -> Replied
+        requires { ⌜ Manned self ⌝ }
+        requires { ⌜ Wrappable (now text) (now wire) ⌝ }
+        requires { ⌜ at + 65 ≤ length (now out) ⌝ }
+        ensures { λ r. ⌜ Replies 65 (framedBy Framing.Oem (now (text .entry)) self) at (now (out .entry)) r (now (out .exit)) ⌝ }
+    {
+        let n = wrap(text, wire);
+        let last = line::sum(&wire[..n]);
+        self.send(2, &wire[1..n], last, out, at)
+    }
+
+    // 02h, the text's first character as address, 30h, the rest as data, 03h and the sum; a text without an address can't be sent.
+    fn send_oem(self, text: &[u8], out: &mut [u8], at: usize) -> Replied
+        requires { ⌜ Manned self ⌝ }
+        requires { ⌜ length (now text) ≤ 400 ⌝ }
+        requires { ⌜ at + 65 ≤ length (now out) ⌝ }
+        ensures { λ r. ⌜ Replies 65 (framedBy Framing.Oem (now (text .entry)) self) at (now (out .entry)) r (now (out .exit)) ⌝ }
+    {
+        if text.len() == 0 {
+            return self.wrong(out, at);
+        }
+        let mut wire = [0u8; 403];
+        self.send_in(text, &mut wire, out, at)
+    }
+
+    // "sends `/`, the text, CR", or an OEM frame, as the controller was made.
+    fn frame(self, text: &[u8], out: &mut [u8], at: usize) -> Replied
+        requires { ⌜ Manned self ⌝ }
+        requires { ⌜ length (now text) ≤ 400 ⌝ }
+        requires { ⌜ at + 65 ≤ length (now out) ⌝ }
+        ensures { λ r. ⌜ Replies 65 (framedOf (now (text .entry)) self) at (now (out .entry)) r (now (out .exit)) ⌝ }
+    {
+        let c = self.controller;
+        match c.framing() {
+            Framing::Dt => self.send(b'/', text, 13, out, at),
+            Framing::Oem => self.send_oem(text, out, at),
         }
     }
 
@@ -314,12 +371,12 @@ impl Station {
     }
 
     // A fresh controller.
-    fn renew(self, a: Address, out: &mut [u8], at: usize) -> Replied
+    fn renew(self, framing: Framing, a: Address, out: &mut [u8], at: usize) -> Replied
         requires { ⌜ Manned self ⌝ }
         requires { ⌜ at + 3 ≤ length (now out) ⌝ }
-        ensures { λ r. ⌜ Replies 3 (madeBy (Given.Is a) self) at (now (out .entry)) r (now (out .exit)) ⌝ }
+        ensures { λ r. ⌜ Replies 3 (madeBy framing (Given.Is a) self) at (now (out .entry)) r (now (out .exit)) ⌝ }
     {
-        let fresh = Controller::fresh(a);
+        let fresh = Controller::fresh(framing, a);
         let end = printing::line(b"ok", out, at);
         Replied {
             station: self.on(fresh),
@@ -328,13 +385,13 @@ impl Station {
     }
 
     // A fresh controller, or S2 and the old one.
-    fn make(self, n: u32, out: &mut [u8], at: usize) -> Replied
+    fn make(self, framing: Framing, n: u32, out: &mut [u8], at: usize) -> Replied
         requires { ⌜ Manned self ⌝ }
         requires { ⌜ at + 3 ≤ length (now out) ⌝ }
-        ensures { λ r. ⌜ Replies 3 (madeBy (addressOf n) self) at (now (out .entry)) r (now (out .exit)) ⌝ }
+        ensures { λ r. ⌜ Replies 3 (madeBy framing (addressOf n) self) at (now (out .entry)) r (now (out .exit)) ⌝ }
     {
         match Address::of(n) {
-            Given::Is(a) => self.renew(a, out, at),
+            Given::Is(a) => self.renew(framing, a, out, at),
             Given::S2 => {
                 let end = printing::line(b"S2", out, at);
                 Replied { station: self, end }
@@ -352,7 +409,8 @@ impl Station {
             Quantity::Ticks => self.wait(n, out, at),
             Quantity::Run => self.run(n, out, at),
             Quantity::Lend => self.buffers(n, out, at),
-            Quantity::New => self.make(n, out, at),
+            Quantity::New => self.make(Framing::Dt, n, out, at),
+            Quantity::Oem => self.make(Framing::Oem, n, out, at),
             Quantity::Tip => self.tip(n, out, at),
             Quantity::Press => self.press(above(n), out, at),
             Quantity::Minus => self.press(below(n), out, at),
@@ -424,7 +482,7 @@ impl Station {
         let desk = self.desk;
         let asked = desk::read(desk, line);
         match asked {
-            Asked::Send => self.send(&line[2..], out, at),
+            Asked::Send => self.frame(&line[2..], out, at),
             Asked::Number(q, n) => self.number(q, n, out, at),
             Asked::Stop => self.stop(out, at),
             Asked::Raw => self.raw(&line[2..], out, at),

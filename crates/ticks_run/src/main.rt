@@ -1,4 +1,5 @@
 // Movement ticks by the million, for counting instructions: `t` on standard input is a million through `tick`, `r` a million through `run`.
+use line::Framing;
 use motion::Sense;
 use pipettor::Controller;
 use pipettor::address::Address;
@@ -17,7 +18,7 @@ fn end_frame(c: Controller) -> Controller
 fn method() -> Controller
     ensures { λ r. ⌜ Valid r ⌝ }
 {
-    let c = Controller::fresh(Address::One);
+    let c = Controller::fresh(Framing::Dt, Address::One);
     let heard = c.listen(b"/1Wv100V100gA44000A0G0R");
     end_frame(heard.controller)
 }

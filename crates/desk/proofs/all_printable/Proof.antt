@@ -1,7 +1,7 @@
 use Prim.Native.Nat.{_-_}
 use borrow.Author.Needs.{needs}
 use lib.ListN.{length}
-use Rattle.line.specs.Wire.{printable}
+use Rattle.line.specs.Bytes.{printable}
 use Rattle.desk.proofs.Lines.{Passed, begins, ends, fails, goes-on}
 use Rattle.desk.proofs.all_printable.Statement.{statement}
 use Rattle.desk.proofs.all_printable.Tie as tie

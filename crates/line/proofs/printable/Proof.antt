@@ -3,7 +3,7 @@ use mathlib.Core.Bool.{false}
 use Prim.Native.Nat.{ℕ, _≤_, _<_}
 use lib.Dec.{leb}
 use Rattle.basics.proofs.Rules.{tests}
-use Rattle.line.specs.Wire.{printable}
+use Rattle.line.specs.Bytes.{printable}
 use Rattle.line.proofs.printable.Statement.{statement}
 use Rattle.line.proofs.printable.Tie as tie
 

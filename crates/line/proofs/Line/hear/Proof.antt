@@ -1,46 +1,11 @@
-use mathlib.Core.Path.{_≡_}
-use mathlib.Core.Bool.{Bool, true, false}
-use Prim.Native.Nat.{ℕ}
 use borrow.Author.Needs.{needs}
-use Rattle.line.specs.declared.Line.{Line}
-use Rattle.line.specs.declared.Line.the-variants.{Outside, Started}
-use Rattle.line.specs.declared.Heard.{Heard}
-use Rattle.basics.proofs.Rules.{tests}
-use Rattle.line.specs.Wire.{slash, cr, printable, waits, endOf, takeOf, hearOf}
+use Rattle.line.proofs.Lines.{hears-dt, hears-oem}
 use Rattle.line.proofs.Line.hear.Statement.{statement}
 use Rattle.line.proofs.Line.hear.Tie as tie
 
-module _ (l : Line) (b : ℕ) (r : Heard) where
-  starts : b ≡ slash → r ≡ waits Started → r ≡ hearOf l b
-  unfolding hearOf
-  starts s e = simp (e, tests)
-
-  module _ (s : b ≡ slash → ⊥) where
-    ends : b ≡ cr → r ≡ endOf l → r ≡ hearOf l b
-    unfolding hearOf
-    ends t e = simp (e, tests)
-
-    module _ (t : b ≡ cr → ⊥) (p : Bool) (q : p ≡ printable b) where
-      takes : p ≡ true → r ≡ takeOf l b → r ≡ hearOf l b
-      unfolding hearOf
-      takes f e = simp (e, ← q, f, tests)
-
-      drops : p ≡ false → r ≡ waits Outside → r ≡ hearOf l b
-      unfolding hearOf
-      drops f e = simp (e, ← q, f, tests)
-
-ruleset laws = (needs, starts, ends, takes, drops)
+ruleset laws = (needs, hears-dt, hears-oem)
 
 pub hear-spec : {M : Type 1} → statement M
 hear-spec =
     tie.close
-    (tie.spec
-    (λ c κs. search laws)
-    (λ c. search laws)
-    (λ c κs. search laws)
-    (λ c. search laws)
-    (λ c κs. search laws)
-    (λ c κs. search laws)
-    (λ c. search laws)
-    (λ c κs. search laws)
-    (λ c. search laws))
+    (tie.spec (λ c. search laws) (λ c κs. search laws) (λ c. search laws) (λ c κs. search laws) (λ c. search laws) (λ c. search laws))

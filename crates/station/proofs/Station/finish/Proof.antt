@@ -6,7 +6,8 @@ use Rattle.station.proofs.Station.finish.Tie as tie
 ruleset laws = (needs, buffer-counted, buffer-short, ends-frame)
 
 pub finish-spec : {M : Type 1} → statement M
-finish-spec = tie.close
+finish-spec =
+    tie.close
     (tie.spec
     (λ c. search laws)
     (λ c. search laws)

@@ -1,9 +1,9 @@
 use borrow.Author.Needs.{needs}
-use Rattle.station.proofs.Serving.{numbered-ticks, numbered-run, numbered-lend, numbered-new, numbered-tip, numbered-press, numbered-minus, press-within, minus-within, lend-within}
+use Rattle.station.proofs.Serving.{numbered-ticks, numbered-run, numbered-lend, numbered-new, numbered-oem, numbered-tip, numbered-press, numbered-minus, press-within, minus-within, lend-within}
 use Rattle.station.proofs.Station.number.Statement.{statement}
 use Rattle.station.proofs.Station.number.Tie as tie
 
-ruleset laws = (needs, numbered-ticks, numbered-run, numbered-lend, numbered-new, numbered-tip, numbered-press, numbered-minus, press-within, minus-within, lend-within)
+ruleset laws = (needs, numbered-ticks, numbered-run, numbered-lend, numbered-new, numbered-oem, numbered-tip, numbered-press, numbered-minus, press-within, minus-within, lend-within)
 
 pub number-spec : {M : Type 1} → statement M
 number-spec =
@@ -21,10 +21,14 @@ number-spec =
     (λ c κs. search laws)
     (λ c. search laws)
     (λ c κs. search laws)
+    (λ c. search laws)
+    (λ c κs. search laws)
     (λ c κs. search laws)
     (λ c. search laws)
     (λ c κs. search laws)
     (λ c κs. search laws)
+    (λ c. search laws)
+    (λ c. search laws)
     (λ c. search laws)
     (λ c. search laws)
     (λ c. search laws)

@@ -6,5 +6,6 @@ use Rattle.station.proofs.Station.renew.Tie as tie
 ruleset laws = (needs, renews)
 
 pub renew-spec : {M : Type 1} → statement M
-renew-spec = tie.close
+renew-spec =
+    tie.close
     (tie.spec (λ c κs. search laws) (λ c. search laws) (λ c κs. search laws) (λ c κs. search laws) (λ c. search laws) (λ c. search laws))

@@ -6,7 +6,8 @@ use Rattle.station.proofs.Station.send.Tie as tie
 ruleset laws = (needs, buffer-counted, sends-on, sends-on-too, refused)
 
 pub send-spec : {M : Type 1} → statement M
-send-spec = tie.close
+send-spec =
+    tie.close
     (tie.spec
     (λ c. search laws)
     (λ c. search laws)

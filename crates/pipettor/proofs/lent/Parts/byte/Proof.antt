@@ -9,7 +9,8 @@ answers : tie.Need-returns-2
 answers c =
     let said = c .before .before in
     let ready = said .before .before in
-    let told = ready .before in
+    let framed = ready .before in
+    let told = framed .before in
     let done = told .before .before in
     let sized = done .before .before .before .before in
     let asked = sized .before in
@@ -20,8 +21,8 @@ answers c =
     let tested = came .before .before in
     record {
       is =
-          heard _ _ _ _ _ _ _ _ _ _ _ _ _ _ _ _ (search (tested .if1 .left)) (ours .letter .ensures) (came .hear .ensures) (kept .keep .ensures) (got .get .ensures)
-          (asked .task .ensures) (sized .size .ensures) (done .perform .ensures .is) (told .outcome .ensures) (search (ready .ready .ensures)) (said .say .ensures);
+          heard _ _ _ _ _ _ _ _ _ _ _ _ _ _ _ _ _ (search (tested .if1 .left)) (ours .letter .ensures) (came .hear .ensures) (kept .keep .ensures) (got .get .ensures)
+          (asked .task .ensures) (sized .size .ensures) (done .perform .ensures .is) (told .outcome .ensures) (search (ready .ready .ensures)) (framed .framing .ensures) (said .say .ensures);
       again = record { core = done .perform .ensures .again };
     }
 
@@ -38,6 +39,7 @@ byte-spec =
     (λ c κs. search needs)
     (λ c κs. (c .before .before .before .before .before .before .before .before .before .before .before .before .before .before .pre, part-fits _ _ _ _ _ _ (search (c .before .before .before .before .before .before .before .get-arg .given)) (c .before .before .before .before .before .get .ensures) (c .before .before .before .size .ensures)))
     (λ c κs. tellable _ (c .before .before .before .before .before .before .before .before .before .before .before .before .before .before .before .before .pre))
+    (λ c κs. search needs)
     (λ c κs. search needs)
     (λ c κs. search needs)
     (λ c. search needs)

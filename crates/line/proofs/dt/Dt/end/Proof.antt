@@ -1,14 +1,14 @@
 use mathlib.Core.Path.{_≡_}
 use borrow.Author.Needs.{needs}
-use Rattle.line.specs.declared.Line.{Line}
-use Rattle.line.specs.declared.Heard.{Heard}
-use Rattle.line.specs.Wire.{endOf}
-use Rattle.line.proofs.Line.end.Statement.{statement}
-use Rattle.line.proofs.Line.end.Tie as tie
+use Rattle.line.specs.declared.dt.Dt.{Dt}
+use Rattle.line.specs.declared.dt.Step.{Step}
+use Rattle.line.specs.Dt.{endOf}
+use Rattle.line.proofs.dt.Dt.end.Statement.{statement}
+use Rattle.line.proofs.dt.Dt.end.Tie as tie
 
 -- each variant
-case : (l k : Line) (r : Heard) → l ≡ k → r ≡ endOf k → r ≡ endOf l
-case l k r p e = rw p e
+case : (d k : Dt) (r : Step) → d ≡ k → r ≡ endOf k → r ≡ endOf d
+case d k r p e = rw p e
 
 ruleset laws = (needs, case)
 
