@@ -21,7 +21,6 @@ use Rattle.line.proofs.Receiving.{no-low, at}
 use Rattle.line.proofs.Framed.{no-stx, a-sequence-is-printable}
 use Rattle.demands.specs.Calls.{Call, byte, after}
 use Rattle.demands.specs.InHand.{DtHand, none, begun, to, longer, dtOf, OemHand, idle, started, addressed, collecting, closed, headed, oemOf, Hand, in-dt, in-oem, emptyHand, handOf, handsOf, frame, endedBy, ends, brought, inHand, awaitsSum, EndIn}
-
 use Rattle.demands.proofs.Holding.{hands-append, chosen}
 
 -- a hand keeps its framing
@@ -239,7 +238,7 @@ in-hand-exactly f calls a ds b =
       always = λ e.
           let before = handsOf (emptyHand f) (e .noise) in
           let there : handsOf (emptyHand f) (brought f calls) ≡ held (e .form) a ds =
-              ap (handsOf (emptyHand f)) (e .whole) ∙ hands-append (emptyHand f) (e .noise) (front (e .form) a ds) ∙
-              begins (e .form) a ds before (e .good) (hands-from f (e .noise) ∙ sym (e .framing)) (e .heard) in
+          ap (handsOf (emptyHand f)) (e .whole) ∙ hands-append (emptyHand f) (e .noise) (front (e .form) a ds) ∙
+          begins (e .form) a ds before (e .good) (hands-from f (e .noise) ∙ sym (e .framing)) (e .heard) in
           rw (there, e .last) (ends-it (e .form) a ds (e .good));
     }

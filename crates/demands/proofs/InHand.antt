@@ -21,7 +21,6 @@ use Rattle.demands.specs.Demands.{Agrees}
 use Rattle.demands.specs.InHand.{to, Hand, Ending, frame, endedBy, ends, inHand, byteSeen, unheeded, EndsFrame, EndsNone, Receives, oneByte, HandsBack, ReceivesBy}
 use Rattle.demands.proofs.Frames.{an-exchange-is-treated-by-the-table}
 use Rattle.demands.proofs.Exchanges.{after-two, answers-two, events-two, the-address-stays, the-framing-stays}
-
 use Rattle.demands.proofs.Holding.{Kept, Deeds, In, other, told, the-receiver-holds-what-is-in-hand}
 use Rattle.demands.proofs.Endings.{in-hand-exactly}
 

@@ -95,9 +95,10 @@ lost (Oem (O.Addressed a)) held s f due whole = absurd (false≢true due)
 lost (Oem (O.Collecting h n)) held s f due whole = absurd (false≢true due)
 lost (Oem (O.Ended h n)) held s f due whole =
     let kept = hears (record { line = Oem (O.Ended h n); frame = held }) stx .frame in
-    let t = the-rest-is-lost (f .address) s (f .bytes) kept (whole .address) (a-sequence-is-printable s (whole .sequence)) (whole .bytes) in
-    (ap (λ (l : Line). framesOf l (behindStx s f)) (after-a-sum h n stx) ∙ t .frames,
-    ap (λ (l : Line). feed (record { line = l; frame = kept }) (behindStx s f) .line) (after-a-sum h n stx) ∙ ap (λ (x : Received). x .line) (t .left))
+    let t = the-rest-is-lost (f .address) s (f .bytes) kept (whole .address) (a-sequence-is-printable s (whole .sequence)) (whole .bytes) in (
+      ap (λ (l : Line). framesOf l (behindStx s f)) (after-a-sum h n stx) ∙ t .frames,
+      ap (λ (l : Line). feed (record { line = l; frame = kept }) (behindStx s f) .line) (after-a-sum h n stx) ∙ ap (λ (x : Received). x .line) (t .left),
+    )
 
 module _ (r : Received) (e : framingOf (r .line) ≡ F.Oem) (n : length (r .frame) ≡ 320) where
   hears-it : (s : ℕ) → sumDue (r .line) ≡ false → Hears (oem s) (r .line)

@@ -1,5 +1,5 @@
--- Theorems: the contract of every public function of the libraries is tight. One, `desk::printed`, hands out a reference and has a statement of its own, at the end;
--- the console's `serve` has no result: it reads and writes.
+-- Theorems: the contract of every public function of the libraries below is tight. One, `desk::printed`, hands out a reference and has a statement of its own, at the end;
+-- the console's `serve` has no result: it reads and writes. `host` stands beside this crate: its contracts are equations of what is left and what is returned.
 use mathlib.Core.Bool.{false}
 use mathlib.Core.Path.{_≡_, refl, sym, ap, _∙_}
 use mathlib.Core.List.{List}
@@ -11,6 +11,8 @@ use borrow.Fn.Kinds.{Dens, endedOf}
 use Rattle.machine.specs.declared.act.Done.{Done}
 use Rattle.machine.specs.Act.{Acted}
 use Rattle.pipettor.specs.declared.lent.Spoke.{Spoke}
+use Rattle.line.specs.Wire.{Received}
+use Rattle.pipettor.specs.declared.Taken.{Taken}
 use Rattle.pipettor.specs.Byte.{After}
 use Rattle.basics.proofs as basics
 use Rattle.decimal.proofs as decimal
@@ -296,6 +298,9 @@ pub reports-tell : Tight reports.tell.Kinds.ps reports.tell.Kinds.r reports.tell
 reports-tell κs args z z′ ws ws′ p q = result p q
 
 -- machine
+pub machine-tip-after : Tight machine.tip_after.Kinds.ps machine.tip_after.Kinds.r machine.tip_after.Reads.Learnt
+machine-tip-after κs args z z′ ws ws′ p q = result p q
+
 pub machine-step-Core-ready : Tight machine.step.Core.ready.Kinds.ps machine.step.Core.ready.Kinds.r machine.step.Core.ready.Reads.Learnt
 machine-step-Core-ready κs args z z′ ws ws′ p q = result p q
 
@@ -338,6 +343,18 @@ pipettor-address-Address-of κs args z z′ ws ws′ p q = result p q
 
 pub pipettor-address-Address-letter : Tight pipettor.address.Address.letter.Kinds.ps pipettor.address.Address.letter.Kinds.r pipettor.address.Address.letter.Reads.Learnt
 pipettor-address-Address-letter κs args z z′ ws ws′ p q = result p q
+
+-- a receiver that has taken bytes
+abbrev taken : Received → ℕ → Taken
+taken r n = record { line = r .line; n = n }
+
+pub pipettor-receive : Tight pipettor.receive.Kinds.ps pipettor.receive.Kinds.r pipettor.receive.Reads.Learnt
+pipettor-receive κs args z z′ ws ws′ p q =
+    let same = p .receiver ∙ sym (q .receiver) in
+    record {
+      result-is = ap (λ (r : Received). taken r (z .n)) same ∙ ap (λ (n : ℕ). record { line = z′ .line; n = n }) (p .count ∙ sym (q .count));
+      left-is = ap (λ (r : Received). (tt, (r .frame, (tt, tt)))) same;
+    }
 
 pub pipettor-Controller-fresh : Tight pipettor.Controller.fresh.Kinds.ps pipettor.Controller.fresh.Kinds.r pipettor.Controller.fresh.Reads.Learnt
 pipettor-Controller-fresh κs args z z′ ws ws′ p q = result (p .is) (q .is)

@@ -51,14 +51,14 @@ dt-ends : (a n : ℕ) → hearOf (Dt (D.Collecting a n)) cr ≡ record { line = 
 unfolding hearOf Dt.hearOf Dt.endOf
 dt-ends a n = refl
 
-abbrev insideDt : ℕ → ℕ → Line
+abbrev pub insideDt : ℕ → ℕ → Line
 insideDt a n = Dt (D.Collecting a n)
 
 -- its address stays
-abbrev stays : ℕ → ℕ → ℕ
+abbrev pub stays : ℕ → ℕ → ℕ
 stays a b = a
 
-dt-collects : Collects insideDt stays (dataByte F.Dt)
+pub dt-collects : Collects insideDt stays (dataByte F.Dt)
 unfolding hearOf Dt.takeOf
 dt-collects = record {
   kept = λ a n b g h. rw (dt-data (D.Collecting a n) b g) (simp tests);

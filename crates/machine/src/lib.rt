@@ -40,7 +40,7 @@ pub struct Ran {
 }
 
 // The tip of the last tick, after n more.
-fn tip_after(n: u32, sense: Sense, before: bool) -> bool
+pub fn tip_after(n: u32, sense: Sense, before: bool) -> bool
     ensures { λ r. ⌜ r ≡ tipAfter n sense before ⌝ }
 {
     if n == 0 {

@@ -57,13 +57,13 @@ pub struct Ran {
 }
 
 // A line that has taken so many bytes.
-struct Taken {
-    line: Line,
-    n: usize,
+pub struct Taken {
+    pub line: Line,
+    pub n: usize,
 }
 
 // The line and the frame in hand after the bytes before one that completes a frame.
-fn receive(start: Line, frame: &mut [u8; 320], bytes: &[u8]) -> Taken
+pub fn receive(start: Line, frame: &mut [u8; 320], bytes: &[u8]) -> Taken
     ensures { λ r. ⌜ UpToFrame start (now (frame .entry)) (now (bytes .entry)) r (now (frame .exit)) ⌝ }
 {
     let mut line = start;

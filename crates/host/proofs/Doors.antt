@@ -1,0 +1,24 @@
+-- The promises of `specs/Door`.
+use mathlib.Core.Path.{_≡_, subst}
+use mathlib.Core.Bool.{true}
+use Rattle.host.specs.Host.{Memory, isImage}
+use Rattle.host.specs.Session.{Holds}
+use Rattle.host.specs.Door.{Door}
+use Rattle.host.proofs.Back.{address-held, controller-held, image-taken}
+use Rattle.host.proofs.Just.{image-holds, image-written}
+use Rattle.host.proofs.Sessions.{a-host-sees-the-methods}
+use Rattle.host.proofs.Strays.{what-is-no-image-stays-none}
+
+holding-is-image : (m : Memory) → Holds m → isImage m ≡ true
+holding-is-image m (k, e) = subst (λ (x : Memory). isImage x ≡ true) (e .is) (image-taken k (e .valid))
+
+pub the-door-holds : Door
+the-door-holds =
+    record {
+      an-image-is-a-controller-written = λ m z. record { only = image-holds m z; always = holding-is-image m };
+      the-address-is-read-back = address-held;
+      what-is-written-is-read-back = controller-held;
+      what-is-read-is-written-back = image-written;
+      what-is-no-image-stays-none = what-is-no-image-stays-none;
+      a-host-sees-the-methods = a-host-sees-the-methods;
+    }

@@ -1,0 +1,9 @@
+pub mod Rows
+pub mod Sounding
+pub mod Images
+pub mod Calls
+pub mod Back
+pub mod Just
+pub mod Sessions
+pub mod Strays
+pub mod Doors
