@@ -16,13 +16,13 @@ enum { PAGE = 4096, NEAR = 64, WATCHED = 0xA5 };
 
 /* the parts, in the order of pipettor_check's arguments; then the answer buffer and the bytes to listen to */
 enum { ADDRESS, LINE, COUNT, RECEIVED, WIDE, WORDS, SMALL, TEXT, PARTS, ANSWER = PARTS, HEARD, LENT };
-static const size_t size[LENT] = {1, 4, 8, 320, 64, 104, 4, 256, 64, 64};
+static const size_t size[LENT] = {1, 4, 4, 320, 64, 104, 4, 256, 64, 64};
 static uint8_t *page[LENT];
 static uint8_t *lent[LENT];
 static int at_end;
 
 /* a whole image, with the buffers, as one row of bytes */
-enum { ROW = 1 + 4 + 8 + 320 + 64 + 104 + 4 + 256 + 64 + 64 };
+enum { ROW = 1 + 4 + 4 + 320 + 64 + 104 + 4 + 256 + 64 + 64 };
 typedef struct {
     uint8_t bytes[ROW];
 } row;
@@ -100,7 +100,7 @@ static void put(const row *r) {
 /* the lent parts as the functions take them */
 #define WIDE_ ((uint64_t *)(void *)lent[WIDE])
 #define WORDS_ ((uint32_t *)(void *)lent[WORDS])
-#define COUNT_ ((uint64_t *)(void *)lent[COUNT])
+#define COUNT_ ((uint32_t *)(void *)lent[COUNT])
 #define POSE WIDE_, WORDS_, lent[SMALL]
 #define ALL lent[ADDRESS], lent[LINE], COUNT_, lent[RECEIVED], POSE, lent[TEXT]
 
@@ -172,7 +172,7 @@ static void damage_numbers(void) {
         case 1: WORDS_[below(26)] = (uint32_t)near_a_limit(); break;
         case 2: lent[SMALL][below(4)] = (uint8_t)near_a_limit(); break;
         case 3: lent[LINE][below(4)] = (uint8_t)near_a_limit(); break;
-        default: COUNT_[0] = near_a_limit(); break;
+        default: COUNT_[0] = (uint32_t)near_a_limit(); break;
         }
     }
 }

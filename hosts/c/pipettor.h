@@ -1,7 +1,7 @@
 /* The proved pipettor controller, for C99 and C++. Link target/staticlib/libhost.a (`rt staticlib host`); x86-64, System V calls.
    Include this file anywhere; there is nothing to initialise but a `pipettor`, and nothing to free.
 
-   Memory: one `pipettor` is one controller, 768 bytes, wherever you like (static, stack, heap, a copy by assignment). Its fields need
+   Memory: one `pipettor` is one controller, 760 bytes, wherever you like (static, stack, heap, a copy by assignment). Its fields need
    the alignment that the compiler gives them. No call allocates, blocks, keeps a pointer, or touches anything but what is handed to it.
    Stack: under 2,700 bytes. Of the C library memcpy and memset are called.
    Threads: calls on different pipettors don't meet. Calls on the same one must not overlap, interrupts included.
@@ -22,8 +22,8 @@
 
 /* One controller. Read the fields if you must, never write them: a value that doesn't fit is refused by the next call that uses it. */
 typedef struct pipettor {
-    uint64_t count[1];  /* data bytes of the frame in hand */
     uint64_t wide[8];   /* exact position, place in the text, its length, open loops, where four loops start */
+    uint32_t count[1];  /* data bytes of the frame in hand */
     uint32_t words[26]; /* plunger, 7 settings, 7 settings of the search, 4 loop counts, wrong column, 6 numbers of what is in progress */
     uint8_t address[1]; /* 1 to 9 */
     uint8_t line[4];    /* receiver: state, address, sequence and sum of the frame in hand */
@@ -74,11 +74,11 @@ typedef struct pipettor {
 extern "C" {
 #endif
 
-uint64_t pipettor_make(uint32_t framing, uint32_t number, uint8_t address[1], uint8_t line[4], uint64_t count[1], uint8_t frame[320],
+uint64_t pipettor_make(uint32_t framing, uint32_t number, uint8_t address[1], uint8_t line[4], uint32_t count[1], uint8_t frame[320],
                        uint64_t wide[8], uint32_t words[26], uint8_t small[4], uint8_t text[256]);
-uint64_t pipettor_byte(uint8_t b, uint8_t address[1], uint8_t line[4], uint64_t count[1], uint8_t frame[320], uint64_t wide[8],
+uint64_t pipettor_byte(uint8_t b, uint8_t address[1], uint8_t line[4], uint32_t count[1], uint8_t frame[320], uint64_t wide[8],
                        uint32_t words[26], uint8_t small[4], uint8_t text[256], uint8_t *answer, size_t size);
-uint64_t pipettor_listen(const uint8_t *bytes, size_t size, uint8_t line[4], uint64_t count[1], uint8_t frame[320]);
+uint64_t pipettor_listen(const uint8_t *bytes, size_t size, uint8_t line[4], uint32_t count[1], uint8_t frame[320]);
 uint64_t pipettor_tick(uint8_t tip, int32_t reading, uint64_t wide[8], uint32_t words[26], uint8_t small[4], const uint8_t text[256]);
 uint64_t pipettor_advance(uint32_t n, uint8_t tip, int32_t reading, uint64_t wide[8], uint32_t words[26], uint8_t small[4],
                           const uint8_t text[256]);
@@ -89,7 +89,7 @@ uint64_t pipettor_plunger(const uint64_t wide[8], const uint32_t words[26], cons
 uint64_t pipettor_exact(const uint64_t wide[8], const uint32_t words[26], const uint8_t small[4]);
 uint64_t pipettor_ready(const uint64_t wide[8], const uint32_t words[26], const uint8_t small[4]);
 uint64_t pipettor_error(const uint64_t wide[8], const uint32_t words[26], const uint8_t small[4]);
-uint64_t pipettor_check(const uint8_t address[1], const uint8_t line[4], const uint64_t count[1], const uint8_t frame[320],
+uint64_t pipettor_check(const uint8_t address[1], const uint8_t line[4], const uint32_t count[1], const uint8_t frame[320],
                         const uint64_t wide[8], const uint32_t words[26], const uint8_t small[4], const uint8_t text[256]);
 
 #ifdef __cplusplus

@@ -5,7 +5,7 @@ use mathlib.Core.List.{List, [], _∷_}
 use Prim.Native.Nat.{ℕ, _+_, _<_, _≤_}
 use native.Mathlib.Omega.{arith}
 use mir.Val.{Fits}
-use mir.Syntax.{w64}
+use mir.Syntax.{w32, w64}
 use Rattle.host.proofs.Rows.{and-right}
 use borrow.Author.Tests.{eq-eqb, ne-eqb, lt-ltb, le-ltb, ltb-true}
 use lib.Dec.{ltb, leb, eqb}
@@ -34,19 +34,10 @@ use Rattle.host.specs.Receiver.{headIn, heldOf, lineAt, lineBy, sameHeld
 use Rattle.host.specs.Progress.{travelBy, searchBy, progressOf, stateAt, stateBy, sameProgress}
 use Rattle.host.specs.Image.{heldIn, lineIn, isLine, LineWritten, wideOf, wordsOf, smallOf, PoseWritten, progressAt, settingsIn, bodyIn, loopsIn, courseIn, poseIn, isPose, idle, collects, kept, collectOf}
 
--- how many bytes, at its own width
-abbrev pub heldAs : ℕ → ℕ → ℕ → ℕ → ℕ → Held
-heldAs t o s u n = record { tag = t; owner = o; sequence = s; sum = u; count = n }
-
-pub is-held :
-    (t o s u c n : ℕ) → c ≡ n →
-    heldAs t o s u c ≡ heldAs t o s u n
-is-held t o s u c n e = rw e
-
 -- a line and a state by their tags
 pub line-told :
-    (h : Held) (j n : ℕ) (x : Head) (r : Line) → h .tag ≡ j → n ≡ h .count → x ≡ headIn h → r ≡ lineAt j (h .owner) n x → r ≡ lineBy h
-line-told h j n x r e p q s = rw (e, ← p, ← q) s
+    (h : Held) (j : ℕ) (x : Head) (r : Line) → h .tag ≡ j → x ≡ headIn h → r ≡ lineAt j (h .owner) (h .count) x → r ≡ lineBy h
+line-told h j x r e q s = rw (e, ← q) s
 
 pub state-told :
     (p : Progress) (j : ℕ) (t : Travel) (x : Search) (r : State) → p .tag ≡ j → t ≡ travelBy p → x ≡ searchBy p → r ≡ stateAt j p t x → r ≡ stateBy p
@@ -105,23 +96,25 @@ pub is-collecting :
 unfolding collects
 is-collecting b l c room fine fits sum sequence r p1 p2 p3 p4 p5 p6 = rw (p6, p5, p4, p3, p2, p1)
 
-fits-under : (n : ℕ) → n < 320 → Fits w64 (n + 1)
-fits-under n h = omega arith
-
 module _ (b : ℕ) (l c f : List ℕ) (t : Bool) (e : t ≡ collects b l c) where
-  pub more-fits : t ≡ true → Fits w64 (getD c 0 0 + 1)
+  has-room : t ≡ true → getD c 0 0 < 320
   unfolding collects
-  more-fits h =
-      fits-under (getD c 0 0)
-      (ltb-true (getD c 0 0) 320
+  has-room h =
+      ltb-true (getD c 0 0) 320
       (and-right (dataByte F.Dt b) _
-      (and-right (eqb (getD l 3 0) 0) _ (and-right (eqb (getD l 2 0) 0) _ (and-right (eqb (getD l 0 0) 2) _ (sym e ∙ h))))))
+      (and-right (eqb (getD l 3 0) 0) _ (and-right (eqb (getD l 2 0) 0) _ (and-right (eqb (getD l 0 0) 2) _ (sym e ∙ h)))))
+
+  pub more-fits : t ≡ true → Fits w32 (getD c 0 0 + 1)
+  more-fits h = omega (arith, has-room h)
+
+  pub place-fits : t ≡ true → Fits w64 (getD c 0 0)
+  place-fits h = omega (arith, has-room h)
 
   pub is-collected :
-      (f′ : List ℕ) (n : ℕ) → t ≡ true → n ≡ getD c 0 0 → f′ ≡ keepOf f (Keep n) b →
+      (f′ : List ℕ) → t ≡ true → f′ ≡ keepOf f (Keep (getD c 0 0)) b →
       kept (2 ∷ getD l 1 0 ∷ 0 ∷ 0 ∷ []) ((getD c 0 0 + 1) ∷ []) f′ true ≡ collectOf b l c f
   unfolding collectOf keepOf
-  is-collected f′ n h p q = rw (← e, h, q, p)
+  is-collected f′ h q = rw (← e, h, q)
 
   pub not-collected : t ≡ false → kept l c f false ≡ collectOf b l c f
   unfolding collectOf

@@ -22,7 +22,6 @@ use Rattle.host.specs.Sound.{flagOf, soundOf}
 use Rattle.host.specs.Image.{heldIn, lineIn, isLine, LineWritten, progressAt, poseIn, isPose, PoseWritten}
 use Rattle.host.specs.Host.{Receiver, Mover, Memory, memory, addressNumber, addressIn, addressHeld, received, moved, encodeOf, lineHeld, receives, poseHeld, deviceHeld, moves, controllerHeld, addressed, isImage}
 use Rattle.host.specs.Session.{Sized, Encodes, Holds}
-use Rattle.host.proofs.Images.{heldAs}
 use Rattle.host.proofs.Rows.{and-left, and-right}
 use Rattle.host.proofs.Sounding.{sound-valid}
 use Rattle.host.proofs.Calls.{received-is, moved-is}
@@ -45,6 +44,9 @@ built (suc n) [] e = absurd (none n (sym e))
 built (suc n) (x ∷ w) e = ap (λ (l : List ℕ). x ∷ l) (built n w (less (length w) n e))
 
 -- numbers that are the same, one by one
+abbrev heldAs : ℕ → ℕ → ℕ → ℕ → ℕ → Held
+heldAs t o s u n = record { tag = t; owner = o; sequence = s; sum = u; count = n }
+
 held-is : (a b : Held) → sameHeld a b ≡ true → a ≡ b
 unfolding sameHeld
 held-is a b e0 =

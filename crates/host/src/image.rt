@@ -23,7 +23,7 @@ pub struct Pose {
     pub core: Core,
 }
 
-fn held_in(line: &[u8; 4], count: &[u64; 1]) -> Held
+fn held_in(line: &[u8; 4], count: &[u32; 1]) -> Held
     ensures { λ r. ⌜ r ≡ heldIn (now (line .entry)) (now (count .entry)) ⌝ }
 {
     Held {
@@ -36,7 +36,7 @@ fn held_in(line: &[u8; 4], count: &[u64; 1]) -> Held
 }
 
 // The receiver's numbers, read.
-pub fn line_in(line: &[u8; 4], count: &[u64; 1]) -> Line
+pub fn line_in(line: &[u8; 4], count: &[u32; 1]) -> Line
     ensures { λ r. ⌜ r ≡ lineIn (now (line .entry)) (now (count .entry)) ⌝ }
 {
     let held = held_in(line, count);
@@ -44,7 +44,7 @@ pub fn line_in(line: &[u8; 4], count: &[u64; 1]) -> Line
 }
 
 // Whether they are a receiver's.
-pub fn is_line(line: &[u8; 4], count: &[u64; 1]) -> bool
+pub fn is_line(line: &[u8; 4], count: &[u32; 1]) -> bool
     ensures { λ r. ⌜ r ≡ isLine (now (line .entry)) (now (count .entry)) ⌝ }
 {
     let held = held_in(line, count);
@@ -54,7 +54,7 @@ pub fn is_line(line: &[u8; 4], count: &[u64; 1]) -> bool
 }
 
 // And written.
-pub fn put_line(l: Line, line: &mut [u8; 4], count: &mut [u64; 1])
+pub fn put_line(l: Line, line: &mut [u8; 4], count: &mut [u32; 1])
     ensures { λ _. ⌜ LineWritten l (now (line .exit)) (now (count .exit)) ⌝ }
 {
     let held = Held::of(l);
@@ -72,7 +72,7 @@ fn is_datum(b: u8) -> bool
     line::printable(b)
 }
 
-fn collects(b: u8, line: &[u8; 4], count: &[u64; 1]) -> bool
+fn collects(b: u8, line: &[u8; 4], count: &[u32; 1]) -> bool
     ensures { λ r. ⌜ r ≡ collects b (now (line .entry)) (now (count .entry)) ⌝ }
 {
     let room = count[0] < 320;
@@ -83,13 +83,13 @@ fn collects(b: u8, line: &[u8; 4], count: &[u64; 1]) -> bool
 }
 
 // What most bytes are, a data byte of a DT frame in hand: it is kept and counted.
-pub fn collect(b: u8, line: &mut [u8; 4], count: &mut [u64; 1], frame: &mut [u8; 320]) -> bool
+pub fn collect(b: u8, line: &mut [u8; 4], count: &mut [u32; 1], frame: &mut [u8; 320]) -> bool
     ensures { λ r. ⌜ kept (now (line .exit)) (now (count .exit)) (now (frame .exit)) r ≡ collectOf b (now (line .entry)) (now (count .entry)) (now (frame .entry)) ⌝ }
 {
     if collects(b, line, count) {
         let n = count[0];
         let owner = line[1];
-        line::keep(frame, Deed::Keep(numbers::size(n)), b);
+        line::keep(frame, Deed::Keep(n as usize), b);
         *line = [2, owner, 0, 0];
         *count = [n + 1];
         return true;

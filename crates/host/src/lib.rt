@@ -194,7 +194,7 @@ pub extern "C" fn pipettor_make(
     number: u32,
     address: &mut [u8; 1],
     line: &mut [u8; 4],
-    count: &mut [u64; 1],
+    count: &mut [u32; 1],
     frame: &mut [u8; 320],
     wide: &mut [u64; 8],
     words: &mut [u32; 26],
@@ -234,7 +234,7 @@ fn ended(
     l: Line,
     address: &mut [u8; 1],
     line: &mut [u8; 4],
-    count: &mut [u64; 1],
+    count: &mut [u32; 1],
     frame: &mut [u8; 320],
     wide: &mut [u64; 8],
     words: &mut [u32; 26],
@@ -281,7 +281,7 @@ pub extern "C" fn pipettor_byte(
     b: u8,
     address: &mut [u8; 1],
     line: &mut [u8; 4],
-    count: &mut [u64; 1],
+    count: &mut [u32; 1],
     frame: &mut [u8; 320],
     wide: &mut [u64; 8],
     words: &mut [u32; 26],
@@ -335,7 +335,7 @@ pub extern "C" fn pipettor_byte(
 pub extern "C" fn pipettor_listen(
     bytes: &[u8],
     line: &mut [u8; 4],
-    count: &mut [u64; 1],
+    count: &mut [u32; 1],
     frame: &mut [u8; 320],
 ) -> u64
     ensures { λ r. ⌜ done (receiver (now (line .exit)) (now (count .exit)) (now (frame .exit))) r ≡ listenIn (now (bytes .entry)) (receiver (now (line .entry)) (now (count .entry)) (now (frame .entry))) ⌝ }
@@ -510,7 +510,7 @@ pub extern "C" fn pipettor_error(wide: &[u64; 8], words: &[u32; 26], small: &[u8
 pub extern "C" fn pipettor_check(
     address: &[u8; 1],
     line: &[u8; 4],
-    count: &[u64; 1],
+    count: &[u32; 1],
     frame: &[u8; 320],
     wide: &[u64; 8],
     words: &[u32; 26],

@@ -13,7 +13,7 @@ pub struct Held {
     pub owner: u8,
     pub sequence: u8,
     pub sum: u8,
-    pub count: u64,
+    pub count: u32,
 }
 
 fn bare(tag: u8) -> Held
@@ -28,10 +28,9 @@ fn bare(tag: u8) -> Held
     }
 }
 
-fn owned(tag: u8, owner: u8, n: usize) -> Held
-    ensures { λ r. ⌜ r ≡ bare tag owner n ⌝ }
+fn owned(tag: u8, owner: u8, count: u32) -> Held
+    ensures { λ r. ⌜ r ≡ bare tag owner count ⌝ }
 {
-    let count = numbers::number(n);
     Held {
         tag,
         owner,
@@ -41,10 +40,9 @@ fn owned(tag: u8, owner: u8, n: usize) -> Held
     }
 }
 
-fn headed(tag: u8, head: Head, n: usize) -> Held
-    ensures { λ r. ⌜ r ≡ headed tag head n ⌝ }
+fn headed(tag: u8, head: Head, count: u32) -> Held
+    ensures { λ r. ⌜ r ≡ headed tag head count ⌝ }
 {
-    let count = numbers::number(n);
     Held {
         tag,
         owner: head.address,
@@ -101,7 +99,7 @@ impl Held {
     pub fn line(self) -> Line
         ensures { λ r. ⌜ r ≡ lineBy self ⌝ }
     {
-        let n = numbers::size(self.count);
+        let n = self.count;
         let head = self.head();
         let tag = self.tag;
         match tag {

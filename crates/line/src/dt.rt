@@ -8,7 +8,7 @@ ghost use Rattle.line.specs.Dt.{waits, whole, endOf, takeOf, hearOf};
 pub enum Dt {
     Outside,
     Started,
-    Collecting(u8, usize),
+    Collecting(u8, u32),
 }
 
 pub struct Step {
@@ -28,12 +28,12 @@ impl Step {
     }
 
     // The byte ends a frame.
-    fn whole(address: u8, count: usize) -> Step
+    fn whole(address: u8, count: u32) -> Step
         ensures { λ r. ⌜ r ≡ whole address count ⌝ }
     {
         Step {
             dt: Dt::Outside,
-            deed: Deed::Frame(address, count),
+            deed: Deed::Frame(address, count as usize),
         }
     }
 }
@@ -62,7 +62,7 @@ impl Dt {
                     let more = count + 1;
                     return Step {
                         dt: Dt::Collecting(address, more),
-                        deed: Deed::Keep(count),
+                        deed: Deed::Keep(count as usize),
                     };
                 }
                 Step::waits(Dt::Collecting(address, 321))

@@ -16,8 +16,8 @@ pub enum Oem {
     Outside,
     Started,
     Addressed(u8),
-    Collecting(Head, usize),
-    Ended(Head, usize),
+    Collecting(Head, u32),
+    Ended(Head, u32),
 }
 
 pub struct Step {
@@ -91,7 +91,7 @@ impl Head {
     }
 
     // A data byte.
-    fn take(self, count: usize, b: u8) -> Step
+    fn take(self, count: u32, b: u8) -> Step
         ensures { λ r. ⌜ r ≡ takeOf self count b ⌝ }
     {
         let next = self.with(b);
@@ -99,14 +99,14 @@ impl Head {
             let more = count + 1;
             return Step {
                 oem: Oem::Collecting(next, more),
-                deed: Deed::Keep(count),
+                deed: Deed::Keep(count as usize),
             };
         }
         Step::waits(Oem::Collecting(next, 321))
     }
 
     // Inside the frame.
-    fn collect(self, count: usize, b: u8) -> Step
+    fn collect(self, count: u32, b: u8) -> Step
         ensures { λ r. ⌜ r ≡ collectOf self count b ⌝ }
     {
         if b == 2 {
@@ -122,7 +122,7 @@ impl Head {
     }
 
     // The sum.
-    fn judge(self, count: usize, b: u8) -> Step
+    fn judge(self, count: u32, b: u8) -> Step
         ensures { λ r. ⌜ r ≡ judgedOf self count b ⌝ }
     {
         if b != self.sum {
@@ -131,7 +131,7 @@ impl Head {
         if sequenced(self.sequence) {
             return Step {
                 oem: Oem::Outside,
-                deed: Deed::Frame(self.address, count),
+                deed: Deed::Frame(self.address, count as usize),
             };
         }
         Step::waits(Oem::Outside)

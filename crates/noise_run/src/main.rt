@@ -126,7 +126,7 @@ fn count_in(line: Dt) -> usize {
     match line {
         Dt::Outside => 0,
         Dt::Started => 0,
-        Dt::Collecting(_, count) => count,
+        Dt::Collecting(_, count) => count as usize,
     }
 }
 

@@ -1,13 +1,13 @@
 //! The memory of a controller, and the same as bytes.
 
 /// How many bytes [`to_image`](crate::Pipettor::to_image) gives.
-pub const IMAGE: usize = 1 + 4 + 8 + 320 + 8 * 8 + 26 * 4 + 4 + 256;
+pub const IMAGE: usize = 1 + 4 + 4 + 320 + 8 * 8 + 26 * 4 + 4 + 256;
 
 /// Numbers at their own widths, as the library is lent them. Any values may be lent.
 #[derive(Clone, Debug, PartialEq, Eq)]
 pub(crate) struct Image {
-    pub count: [u64; 1],
     pub wide: [u64; 8],
+    pub count: [u32; 1],
     pub words: [u32; 26],
     pub address: [u8; 1],
     pub line: [u8; 4],
@@ -45,8 +45,8 @@ impl Writer {
 impl Image {
     /// No controller yet: it is made in here.
     pub const EMPTY: Image = Image {
-        count: [0; 1],
         wide: [0; 8],
+        count: [0; 1],
         words: [0; 26],
         address: [0; 1],
         line: [0; 4],
@@ -79,7 +79,7 @@ impl Image {
         let mut image = Image::EMPTY;
         image.address = from.take();
         image.line = from.take();
-        image.count = [u64::from_le_bytes(from.take())];
+        image.count = [u32::from_le_bytes(from.take())];
         image.frame = from.take();
         for n in &mut image.wide {
             *n = u64::from_le_bytes(from.take());

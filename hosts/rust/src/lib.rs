@@ -25,7 +25,7 @@
 //! # }
 //! ```
 //!
-//! The controller's memory is 768 bytes, in the [`Pipettor`] itself. No call allocates, blocks, or keeps what is lent to it.
+//! The controller's memory is 760 bytes, in the [`Pipettor`] itself. No call allocates, blocks, or keeps what is lent to it.
 #![cfg_attr(not(feature = "std"), no_std)]
 #![deny(missing_docs)]
 

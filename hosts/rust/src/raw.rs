@@ -7,9 +7,9 @@ use crate::Sense;
 mod library {
     #[rustfmt::skip]
     extern "C" {
-        pub fn pipettor_make(framing: u32, number: u32, address: &mut [u8; 1], line: &mut [u8; 4], count: &mut [u64; 1], frame: &mut [u8; 320], wide: &mut [u64; 8], words: &mut [u32; 26], small: &mut [u8; 4], text: &mut [u8; 256]) -> u64;
-        pub fn pipettor_byte(b: u8, address: &mut [u8; 1], line: &mut [u8; 4], count: &mut [u64; 1], frame: &mut [u8; 320], wide: &mut [u64; 8], words: &mut [u32; 26], small: &mut [u8; 4], text: &mut [u8; 256], buffer: *mut u8, length: usize) -> u64;
-        pub fn pipettor_listen(bytes: *const u8, length: usize, line: &mut [u8; 4], count: &mut [u64; 1], frame: &mut [u8; 320]) -> u64;
+        pub fn pipettor_make(framing: u32, number: u32, address: &mut [u8; 1], line: &mut [u8; 4], count: &mut [u32; 1], frame: &mut [u8; 320], wide: &mut [u64; 8], words: &mut [u32; 26], small: &mut [u8; 4], text: &mut [u8; 256]) -> u64;
+        pub fn pipettor_byte(b: u8, address: &mut [u8; 1], line: &mut [u8; 4], count: &mut [u32; 1], frame: &mut [u8; 320], wide: &mut [u64; 8], words: &mut [u32; 26], small: &mut [u8; 4], text: &mut [u8; 256], buffer: *mut u8, length: usize) -> u64;
+        pub fn pipettor_listen(bytes: *const u8, length: usize, line: &mut [u8; 4], count: &mut [u32; 1], frame: &mut [u8; 320]) -> u64;
         pub fn pipettor_tick(tip: u8, reading: i32, wide: &mut [u64; 8], words: &mut [u32; 26], small: &mut [u8; 4], text: &[u8; 256]) -> u64;
         pub fn pipettor_advance(n: u32, tip: u8, reading: i32, wide: &mut [u64; 8], words: &mut [u32; 26], small: &mut [u8; 4], text: &[u8; 256]) -> u64;
         pub fn pipettor_run(n: u32, tip: u8, reading: i32, wide: &mut [u64; 8], words: &mut [u32; 26], small: &mut [u8; 4], text: &[u8; 256]) -> u64;
@@ -18,7 +18,7 @@ mod library {
         pub fn pipettor_exact(wide: &[u64; 8], words: &[u32; 26], small: &[u8; 4]) -> u64;
         pub fn pipettor_ready(wide: &[u64; 8], words: &[u32; 26], small: &[u8; 4]) -> u64;
         pub fn pipettor_error(wide: &[u64; 8], words: &[u32; 26], small: &[u8; 4]) -> u64;
-        pub fn pipettor_check(address: &[u8; 1], line: &[u8; 4], count: &[u64; 1], frame: &[u8; 320], wide: &[u64; 8], words: &[u32; 26], small: &[u8; 4], text: &[u8; 256]) -> u64;
+        pub fn pipettor_check(address: &[u8; 1], line: &[u8; 4], count: &[u32; 1], frame: &[u8; 320], wide: &[u64; 8], words: &[u32; 26], small: &[u8; 4], text: &[u8; 256]) -> u64;
     }
 }
 

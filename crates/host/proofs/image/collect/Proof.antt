@@ -1,9 +1,9 @@
 use borrow.Author.Needs.{needs}
-use Rattle.host.proofs.Images.{more-fits, is-collected, not-collected}
+use Rattle.host.proofs.Images.{more-fits, place-fits, is-collected, not-collected}
 use Rattle.host.proofs.image.collect.Statement.{statement}
 use Rattle.host.proofs.image.collect.Tie as tie
 
-ruleset laws = (needs, more-fits, is-collected, not-collected)
+ruleset laws = (needs, more-fits, place-fits, is-collected, not-collected)
 
 pub collect-spec : {M : Type 1} → statement M
 collect-spec =
@@ -12,7 +12,7 @@ collect-spec =
     (λ c κs. search laws)
     (λ c. search laws)
     (λ c. search laws)
-    (λ c κs. search laws)
+    (λ c. search laws)
     (λ c κs. search laws)
     (λ c. search laws)
     (λ c. search laws)

@@ -13,7 +13,6 @@ line-spec =
     tie.close
     (tie.spec
     (λ c κs. search laws)
-    (λ c κs. search laws)
     (λ c. search laws)
     (λ c. search laws)
     (λ c. search laws)

@@ -41,6 +41,7 @@ take-spec =
     (λ c. search laws)
     (λ c. search laws)
     (λ c. search laws)
+    (λ c. search laws)
     (λ c κs. search laws)
     (λ c. search laws)
     (λ c. search laws)
