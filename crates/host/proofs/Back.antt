@@ -18,15 +18,15 @@ use Rattle.pipettor.specs.declared.address.Given.the-variants as G
 use Rattle.pipettor.specs.declared.Controller.{Controller}
 use Rattle.pipettor.specs.Address.{addressOf}
 use Rattle.pipettor.specs.Valid.{Valid}
-use Rattle.host.specs.declared.receiver.Held.{Held}
-use Rattle.host.specs.declared.progress.Progress.{Progress}
-use Rattle.host.specs.declared.image.Pose.{Pose}
-use Rattle.host.specs.Receiver.{heldOf, lineAt, lineBy, sameHeld}
-use Rattle.host.specs.Progress.{progressOf, stateAt, stateBy, sameProgress}
-use Rattle.host.specs.Sound.{flagOf}
-use Rattle.host.specs.Image.{lineOf, countOf, lineIn, isLine, wideOf, wordsOf, smallOf, poseIn, isPose}
+use Rattle.image.specs.declared.receiver.Held.{Held}
+use Rattle.image.specs.declared.progress.Progress.{Progress}
+use Rattle.image.specs.declared.Pose.{Pose}
+use Rattle.image.specs.Receiver.{heldOf, lineAt, lineBy, sameHeld}
+use Rattle.image.specs.Progress.{progressOf, stateAt, stateBy, sameProgress}
+use Rattle.image.specs.Sound.{flagOf}
+use Rattle.image.specs.Image.{lineOf, countOf, lineIn, isLine, wideOf, wordsOf, smallOf, poseIn, isPose}
 use Rattle.host.specs.Host.{addressNumber, addressIn, addressHeld, poseOf, received, moved, encodeOf, lineHeld, receives, deviceHeld, moves, controllerHeld, addressed, isImage}
-use Rattle.host.proofs.Sounding.{valid-sound}
+use Rattle.image.proofs.Sounding.{valid-sound}
 
 -- numbers are themselves
 same-number : (n : ℕ) → eqb n n ≡ true

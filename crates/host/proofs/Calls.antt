@@ -53,14 +53,14 @@ use Rattle.host.specs.declared.Gone.{Gone}
 use Rattle.host.specs.declared.Run.{Run}
 use Rattle.host.specs.declared.Framed.{Framed}
 use Rattle.host.specs.declared.Framed.the-variants as M
-use Rattle.host.specs.declared.image.Pose.{Pose}
-use Rattle.host.specs.Sound.{flagOf}
-use Rattle.host.specs.Progress.{progressOf, sameProgress}
-use Rattle.host.specs.Image.{lineIn, isLine, LineWritten, poseIn, isPose, PoseWritten, progressAt, idle, Kept, kept, collects, collectOf}
-use Rattle.host.specs.Receiver.{lineAt, sameHeld}
+use Rattle.image.specs.declared.Pose.{Pose}
+use Rattle.image.specs.Sound.{flagOf}
+use Rattle.image.specs.Progress.{progressOf, sameProgress}
+use Rattle.image.specs.Image.{lineIn, isLine, LineWritten, poseIn, isPose, PoseWritten, progressAt, idle, Kept, kept, collects, collectOf}
+use Rattle.image.specs.Receiver.{lineAt, sameHeld}
 use Rattle.host.specs.Host.{receiver, Mover, mover, Memory, memory, addressNumber, poseOf, received, moved, encodeOf, addressIn, addressHeld, s1, s2, broken, unframed, saidCode, newsCode, usedCode, done, spoke, Spoke, gonePose, ranPose, haltedPose, turnedIn, tickIn, advanceIn, runIn, stopIn, tellIn, readyIn, listenIn, endedBy, heardBy, byteIn, framingOf, madeBy, madeIn, addressed, isImage, checkIn}
-use Rattle.host.proofs.Rows.{and-left, and-right}
-use Rattle.host.proofs.Sounding.{sound-valid}
+use Rattle.image.proofs.Rows.{and-left, and-right}
+use Rattle.image.proofs.Sounding.{sound-valid}
 
 -- what a host senses, and what ticks tell
 module _ (tip : Bool) (reading : ℤ) (fits : SFits w32 reading) where

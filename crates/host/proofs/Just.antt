@@ -14,16 +14,16 @@ use Rattle.pipettor.specs.declared.address.Given.{Given}
 use Rattle.pipettor.specs.declared.address.Given.the-variants as G
 use Rattle.pipettor.specs.Address.{addressOf}
 use Rattle.machine.specs.Valid as Machine
-use Rattle.host.specs.declared.receiver.Held.{Held}
-use Rattle.host.specs.declared.progress.Progress.{Progress}
-use Rattle.host.specs.Receiver.{heldOf, sameHeld}
-use Rattle.host.specs.Progress.{progressOf, stateBy, sameProgress}
-use Rattle.host.specs.Sound.{flagOf, soundOf}
-use Rattle.host.specs.Image.{heldIn, lineIn, isLine, LineWritten, progressAt, poseIn, isPose, PoseWritten}
+use Rattle.image.specs.declared.receiver.Held.{Held}
+use Rattle.image.specs.declared.progress.Progress.{Progress}
+use Rattle.image.specs.Receiver.{heldOf, sameHeld}
+use Rattle.image.specs.Progress.{progressOf, stateBy, sameProgress}
+use Rattle.image.specs.Sound.{flagOf, soundOf}
+use Rattle.image.specs.Image.{heldIn, lineIn, isLine, LineWritten, progressAt, poseIn, isPose, PoseWritten}
 use Rattle.host.specs.Host.{Receiver, Mover, Memory, memory, addressNumber, addressIn, addressHeld, received, moved, encodeOf, lineHeld, receives, poseHeld, deviceHeld, moves, controllerHeld, addressed, isImage}
 use Rattle.host.specs.Session.{Sized, Encodes, Holds}
-use Rattle.host.proofs.Rows.{and-left, and-right}
-use Rattle.host.proofs.Sounding.{sound-valid}
+use Rattle.image.proofs.Rows.{and-left, and-right}
+use Rattle.image.proofs.Sounding.{sound-valid}
 use Rattle.host.proofs.Calls.{received-is, moved-is}
 
 -- a list, place by place

@@ -1,6 +1,3 @@
-pub mod Rows
-pub mod Sounding
-pub mod Images
 pub mod Calls
 pub mod Back
 pub mod Just

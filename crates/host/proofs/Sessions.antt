@@ -27,11 +27,11 @@ use Rattle.pipettor.specs.Byte.{byteOf, heardOf, gotOf, squeezedOf, dealtOf, pe
 use Rattle.pipettor.specs.Controller.{on, ticked, madeOf, tickedOf, advancedOf, runOf, stoppedOf}
 use Rattle.pipettor.specs.Listening.{listenedOf}
 use Rattle.pipettor.proofs.Keeps.{Sized, made-is-valid, tick-keeps, stop-keeps-valid, advance-keeps, run-keeps, byte-keeps, byte-keeps-sizes, listen-keeps-valid, listen-keeps-sizes}
-use Rattle.host.specs.Progress.{progressOf}
-use Rattle.host.specs.Image.{smallOf, idle}
+use Rattle.image.specs.Progress.{progressOf}
+use Rattle.image.specs.Image.{smallOf, idle}
 use Rattle.host.specs.Host.{memory, encodeOf, received, moved, poseOf, addressHeld, newsCode, spoke, spokenOf, turnedIn, tickIn, runIn, stopIn, listenIn, endedBy, heardBy, byteIn}
 use Rattle.host.specs.Session.{Call, byte, listen, tick, advance, run, stop, callIn, called, callOf, writtenDown, sessionIn, sessionOf}
-use Rattle.host.proofs.Rows.{and-left}
+use Rattle.image.proofs.Rows.{and-left}
 use Rattle.host.proofs.Back.{line-held, receiver-taken, device-held, mover-taken, controller-held, address-held}
 
 -- a tick while nothing runs

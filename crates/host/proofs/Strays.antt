@@ -15,11 +15,11 @@ use Rattle.machine.specs.declared.Device.{Device}
 use Rattle.machine.specs.declared.Turned.{Turned}
 use Rattle.pipettor.specs.declared.address.Given.{Given}
 use Rattle.pipettor.specs.declared.address.Given.the-variants as G
-use Rattle.host.specs.Sound.{flagOf}
-use Rattle.host.specs.Image.{poseIn, isPose, idle}
+use Rattle.image.specs.Sound.{flagOf}
+use Rattle.image.specs.Image.{poseIn, isPose, idle}
 use Rattle.host.specs.Host.{Receiver, Mover, Memory, memory, mover, lineHeld, receives, moves, addressHeld, Done, Spoke, turnedIn, tickIn, runIn, stopIn, listenIn, endedBy, heardBy, byteIn, addressed, isImage}
 use Rattle.host.specs.Session.{Sized, Call, byte, listen, tick, advance, run, stop, callIn}
-use Rattle.host.proofs.Rows.{and-right}
+use Rattle.image.proofs.Rows.{and-right}
 use Rattle.host.proofs.Back.{flag-small}
 use Rattle.host.proofs.Just.{built}
 

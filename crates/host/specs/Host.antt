@@ -31,13 +31,13 @@ use Rattle.pipettor.specs.declared.Said.the-variants.{Silent, Answer, S1}
 use Rattle.pipettor.specs.Byte.{After, byteOf}
 use Rattle.pipettor.specs.Controller.{madeOf}
 use Rattle.pipettor.specs.Listening.{at}
-use Rattle.host.specs.declared.image.Pose.{Pose}
+use Rattle.image.specs.declared.Pose.{Pose}
 use Rattle.host.specs.declared.Gone.{Gone}
 use Rattle.host.specs.declared.Run.{Run}
 use Rattle.host.specs.declared.Framed.{Framed}
 use Rattle.host.specs.declared.Framed.the-variants as M
-use Rattle.host.specs.Sound.{flagOf}
-use Rattle.host.specs.Image.{lineOf, countOf, lineIn, isLine, wideOf, wordsOf, smallOf, poseIn, isPose, idle}
+use Rattle.image.specs.Sound.{flagOf}
+use Rattle.image.specs.Image.{lineOf, countOf, lineIn, isLine, wideOf, wordsOf, smallOf, poseIn, isPose, idle}
 
 -- the memory in which a host keeps a controller: what receives, what moves, and the address
 pub record Receiver : Type 0 where

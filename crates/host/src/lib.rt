@@ -1,12 +1,7 @@
 // The controller for hosts in C and Rust: every call is lent the memory that the host keeps it in, and refuses memory that holds no controller. No function has a premise.
-pub mod image;
-pub mod numbers;
-pub mod progress;
-pub mod receiver;
-pub mod sound;
-
 use command::refusal::Verdict;
 use image::Pose;
+use image::numbers;
 use line::Deed;
 use line::Framing;
 use line::Line;
@@ -24,7 +19,7 @@ ghost use lib.Dec.{ltb};
 ghost use lib.ListN.{length};
 ghost use Rattle.motion.specs.Bodies.{sensing};
 ghost use Rattle.machine.specs.Valid.{Valid};
-ghost use Rattle.host.specs.Image.{lineIn};
+ghost use Rattle.image.specs.Image.{lineIn};
 ghost use Rattle.host.specs.Host.{receiver, mover, memory, done, spoke, addressNumber, addressIn, saidCode, newsCode, gonePose, ranPose, haltedPose, usedCode, framingOf, madeIn, byteIn, endedBy, addressHeld, listenIn, tickIn, advanceIn, runIn, stopIn, plungerIn, exactIn, readyIn, errorIn, checkIn};
 
 // What no other answer is: the top bit is set.

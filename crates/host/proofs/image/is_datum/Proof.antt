@@ -1,9 +1,0 @@
-use borrow.Author.Needs.{needs}
-use Rattle.host.proofs.Images.{a-slash, no-slash}
-use Rattle.host.proofs.image.is_datum.Statement.{statement}
-use Rattle.host.proofs.image.is_datum.Tie as tie
-
-ruleset laws = (needs, a-slash, no-slash)
-
-pub is-datum-spec : {M : Type 1} → statement M
-is-datum-spec = tie.close (tie.spec (λ c. search laws) (λ c κs. search laws) (λ c. search laws))

@@ -1,9 +1,0 @@
-use borrow.Author.Needs.{needs}
-use Rattle.host.proofs.Images.{low-tag, high-tag}
-use Rattle.host.proofs.image.is_idle.Statement.{statement}
-use Rattle.host.proofs.image.is_idle.Tie as tie
-
-ruleset laws = (needs, low-tag, high-tag)
-
-pub is-idle-spec : {M : Type 1} → statement M
-is-idle-spec = tie.close (tie.spec (λ c. search laws) (λ c. search laws) (λ c. search laws) (λ c. search laws))

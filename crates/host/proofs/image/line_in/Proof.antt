@@ -1,9 +1,0 @@
-use borrow.Author.Needs.{needs}
-use Rattle.host.proofs.Images.{is-line-read}
-use Rattle.host.proofs.image.line_in.Statement.{statement}
-use Rattle.host.proofs.image.line_in.Tie as tie
-
-ruleset laws = (needs, is-line-read)
-
-pub line-in-spec : {M : Type 1} → statement M
-line-in-spec = tie.close (tie.spec (λ c κs. search laws) (λ c κs. search laws) (λ c. search laws))

@@ -1,9 +1,0 @@
-use borrow.Author.Needs.{needs}
-use Rattle.host.proofs.Rows.{up-to, beyond}
-use Rattle.host.proofs.numbers.byte_up_to.Statement.{statement}
-use Rattle.host.proofs.numbers.byte_up_to.Tie as tie
-
-ruleset laws = (needs, up-to, beyond)
-
-pub byte-up-to-spec : {M : Type 1} → statement M
-byte-up-to-spec = tie.close (tie.spec (λ c. search laws) (λ c. search laws))

@@ -1,9 +1,0 @@
-use borrow.Author.Needs.{needs}
-use Rattle.host.proofs.Rows.{equal, unequal}
-use Rattle.host.proofs.numbers.same_byte.Statement.{statement}
-use Rattle.host.proofs.numbers.same_byte.Tie as tie
-
-ruleset laws = (needs, equal, unequal)
-
-pub same-byte-spec : {M : Type 1} → statement M
-same-byte-spec = tie.close (tie.spec (λ c. search laws) (λ c. search laws))

@@ -1,0 +1,4 @@
+pub mod Receiver
+pub mod Progress
+pub mod Sound
+pub mod Image
