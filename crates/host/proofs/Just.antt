@@ -106,7 +106,7 @@ wordsWith n g =
     getD n 10 0 ∷ getD n 11 0 ∷ getD n 12 0 ∷ getD n 13 0 ∷ getD n 14 0 ∷ getD n 15 0 ∷ getD n 16 0 ∷ getD n 17 0 ∷ getD n 18 0 ∷ getD n 19 0 ∷
     g .from ∷ g .goal ∷ g .speed ∷ g .ticks ∷ g .zero ∷ g .count ∷ []
 
-module _ (w n s : List ℕ) (hw : length w ≡ 8) (hn : length n ≡ 26) (hs : length s ≡ 4) (e : isPose (poseIn w n s) n s ≡ true) where
+module _ (w n s : List ℕ) (e : isPose (poseIn w n s) n s ≡ true) where
   going-so : progressOf (stateBy (progressAt n s)) ≡ progressAt n s
   unfolding isPose poseIn
   going-so = progress-is (progressOf (stateBy (progressAt n s))) (progressAt n s) (and-left _ _ e)
@@ -115,9 +115,12 @@ module _ (w n s : List ℕ) (hw : length w ≡ 8) (hn : length n ≡ 26) (hs : l
   unfolding isPose
   flags = and-right (sameProgress (progressOf (poseIn w n s .core .course .state)) (progressAt n s)) _ e
 
-  pub pose-just : PoseWritten (poseIn w n s) w n s
+  pub pose-valid : Machine.Valid (poseIn w n s .core)
+  pose-valid = sound-valid (poseIn w n s .core) (and-right (leb (getD s 3 0) 1) _ (and-right (leb (getD s 0 0) 1) _ flags))
+
+  pub pose-just : length w ≡ 8 → length n ≡ 26 → length s ≡ 4 → PoseWritten (poseIn w n s) w n s
   unfolding poseIn
-  pose-just =
+  pose-just hw hn hs =
       record {
         wide = sym (built 8 w hw);
         words = sym (ap (wordsWith n) going-so ∙ built 26 n hn);
@@ -128,8 +131,10 @@ module _ (w n s : List ℕ) (hw : length w ≡ 8) (hn : length n ≡ 26) (hs : l
             (ap (λ (b : ℕ). getD s 0 0 ∷ getD s 1 0 ∷ getD s 2 0 ∷ b ∷ []) (flag-just (getD s 3 0) (and-left _ _ (and-right (leb (getD s 0 0) 1) _ flags))) ∙ built 4 s hs)));
       }
 
-  pub pose-valid : Machine.Valid (poseIn w n s .core)
-  pose-valid = sound-valid (poseIn w n s .core) (and-right (leb (getD s 3 0) 1) _ (and-right (leb (getD s 0 0) 1) _ flags))
+module _ (m : Memory) (z : Sized m) where
+  pub mover-just : moves (m .mover) ≡ true → moved (deviceHeld (m .mover)) ≡ m .mover
+  mover-just e =
+      sym (moved-is (poseHeld (m .mover)) (m .mover .wide) (m .mover .words) (m .mover .small) (m .mover .text) (pose-just (m .mover .wide) (m .mover .words) (m .mover .small) e (z .wide) (z .words) (z .small)))
 
 -- the address
 abbrev numberOr : Given → ℕ
@@ -170,13 +175,12 @@ module _ (m : Memory) (z : Sized m) where
   unfolding encodeOf
   written-so o a e =
       record {
-        valid = record { core = pose-valid (m .mover .wide) (m .mover .words) (m .mover .small) (z .wide) (z .words) (z .small) (and-right (receives (m .receiver)) _ e) };
+        valid = record { core = pose-valid (m .mover .wide) (m .mover .words) (m .mover .small) (and-right (receives (m .receiver)) _ e) };
         is =
             ap (λ (x : List ℕ). memory x (received (lineHeld (m .receiver)) (m .receiver .frame)) (moved (deviceHeld (m .mover)))) (address-just (m .address) o (z .address) a) ∙
             (ap (λ (r : Receiver). memory (m .address) r (moved (deviceHeld (m .mover))))
             (sym (received-is (lineHeld (m .receiver)) (m .receiver .line) (m .receiver .count) (m .receiver .frame) (line-just (m .receiver .line) (m .receiver .count) (z .line) (z .count) (and-left _ _ e)))) ∙
-            ap (λ (v : Mover). memory (m .address) (m .receiver) v)
-            (sym (moved-is (poseHeld (m .mover)) (m .mover .wide) (m .mover .words) (m .mover .small) (m .mover .text) (pose-just (m .mover .wide) (m .mover .words) (m .mover .small) (z .wide) (z .words) (z .small) (and-right (receives (m .receiver)) _ e)))));
+            ap (λ (v : Mover). memory (m .address) (m .receiver) v) (mover-just m z (and-right (receives (m .receiver)) _ e)));
       }
 
   pub image-holds : isImage m ≡ true → Holds m

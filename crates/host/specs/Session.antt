@@ -1,5 +1,5 @@
 -- What holds of the memory whatever a host calls: which memory is a controller's, and a host's calls, one after the other, on memory and on the controller itself.
-use Prim.Native.Nat.{ℕ}
+use Prim.Native.Nat.{ℕ, _<_, _≤_}
 use mathlib.Core.Path.{_≡_}
 use mathlib.Core.List.{List, [], _∷_}
 use lib.ListN.{length}
@@ -9,7 +9,7 @@ use Rattle.pipettor.specs.Valid.{Valid}
 use Rattle.pipettor.specs.Byte.{byteOf}
 use Rattle.pipettor.specs.Controller.{tickedOf, advancedOf, runOf, stoppedOf}
 use Rattle.pipettor.specs.Listening.{listenedOf}
-use Rattle.host.specs.Host.{Receiver, Mover, Memory, memory, encodeOf, Done, Spoke, spoke, saidCode, newsCode, usedCode, byteIn, listenIn, tickIn, advanceIn, runIn, stopIn}
+use Rattle.host.specs.Host.{Receiver, Mover, Memory, memory, encodeOf, Done, Spoke, spoke, s1, s3, broken, saidCode, newsCode, usedCode, byteIn, listenIn, tickIn, advanceIn, runIn, stopIn}
 
 -- the sizes of the arrays
 pub record Sized (m : Memory) : Type 0 where
@@ -52,6 +52,35 @@ callIn (tick s) m = inMover m (tickIn s (m .mover))
 callIn (advance n s) m = inMover m (advanceIn n s (m .mover))
 callIn (run n s) m = inMover m (runIn n s (m .mover))
 callIn stop m = inMover m (stopIn (m .mover))
+
+-- the buffer that is lent for an answer, and how many bytes are lent at all
+abbrev pub bufferLent : Call → List ℕ
+bufferLent (byte b buf) = buf
+bufferLent (listen bytes) = []
+bufferLent (tick s) = []
+bufferLent (advance n s) = []
+bufferLent (run n s) = []
+bufferLent stop = []
+
+abbrev pub bytesLent : Call → ℕ
+bytesLent (byte b buf) = length buf
+bytesLent (listen bytes) = length bytes
+bytesLent (tick s) = 0
+bytesLent (advance n s) = 0
+bytesLent (run n s) = 0
+bytesLent stop = 0
+
+-- what a call tells: a value, which lies below 2^63; or one of three refusals, which lie above, and then memory and buffer are what they were
+pub data Tells (m : Memory) (buf : List ℕ) (s : Spoke) : Type 0 where
+  value : s .code < 9223372036854775808 → Tells m buf s
+  short-buffer : s ≡ spoke m buf s1 → Tells m buf s
+  long-run : s ≡ spoke m buf s3 → Tells m buf s
+  no-controller : s ≡ spoke m buf broken → Tells m buf s
+
+-- what is told of a device: a number up to a bound, or that there is none
+pub data Asked (most code : ℕ) : Type 0 where
+  number : code ≤ most → Asked most code
+  none : code ≡ broken → Asked most code
 
 -- the controller after the method, what it leaves of a buffer, and what is returned
 pub record Called : Type 0 where
