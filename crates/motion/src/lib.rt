@@ -24,10 +24,10 @@ ghost use Rattle.motion.specs.Bounds.{BodyOk, TravelOk, ActivityOk};
 
 // The exact position counts millionths of an increment.
 pub struct Body {
-    pub plunger: u32,
     pub exact: u64,
-    pub initialised: bool,
+    pub plunger: u32,
     pub settings: Settings,
+    pub initialised: bool,
 }
 
 // A movement from one place to another at a speed in tenths of an increment a second, after so many ticks.
