@@ -1,11 +1,11 @@
 -- Theorems: what is returned is a value below 2^63, or a refusal that changes nothing.
-use mathlib.Core.Path.{_≡_, refl, sym, ap}
-use mathlib.Core.Bool.{Bool, true, false, false≢true}
+use mathlib.Core.Path.{_≡_, refl, ap}
+use mathlib.Core.Bool.{Bool, false}
 use mathlib.Core.List.{List, [], _∷_}
-use Prim.Native.Nat.{ℕ, _+_, _*_, _<_, _≤_}
+use Prim.Native.Nat.{ℕ, _<_, _≤_}
 use native.Mathlib.Omega.{arith}
 use borrow.Author.Tests.{leb-true, ltb-false}
-use lib.Dec.{ltb, leb, eqb}
+use lib.Dec.{ltb}
 use lib.ListN.{length}
 use Rattle.basics.proofs.Choice.{by}
 use Rattle.command.specs.declared.refusal.Verdict.{Verdict}
@@ -32,13 +32,12 @@ use Rattle.machine.proofs.Runs.{count-within}
 use Rattle.motion.specs.declared.Sense.{Sense}
 use Rattle.pipettor.specs.declared.acting.Outcome.{Outcome}
 use Rattle.pipettor.specs.declared.acting.Outcome.the-variants.{Mute, Tell}
-use Rattle.pipettor.specs.declared.address.Address.{Address}
 use Rattle.pipettor.specs.declared.address.Given.{Given}
 use Rattle.pipettor.specs.declared.address.Given.the-variants as G
 use Rattle.pipettor.specs.Byte.{saidOf, dealtOf, heardOf, byteOf}
 use Rattle.image.specs.Sound.{flagOf}
 use Rattle.image.specs.Image.{poseIn, isPose, idle}
-use Rattle.host.specs.Host.{Receiver, Mover, Memory, memory, received, moved, lineHeld, receives, deviceHeld, moves, addressHeld, controllerHeld, s3, saidCode, newsCode, usedCode, Done, done, Spoke, spoke, spokenOf, turnedIn, tickIn, runIn, stopIn, tellIn, plungerIn, exactIn, readyIn, errorIn, listenIn, endedBy, heardBy, byteIn}
+use Rattle.host.specs.Host.{Receiver, Mover, Memory, memory, moved, lineHeld, receives, deviceHeld, moves, addressHeld, s3, saidCode, newsCode, usedCode, Done, done, Spoke, spoke, turnedIn, tickIn, runIn, stopIn, tellIn, listenIn, endedBy, heardBy, byteIn}
 use Rattle.host.specs.Session.{Sized, Call, byte, listen, tick, advance, run, stop, inMover, bufferLent, bytesLent, Tells, value, short-buffer, long-run, no-controller, Asked, number, none, callIn}
 use Rattle.host.proofs.Back.{flag-small}
 use Rattle.host.proofs.Just.{pose-valid, mover-just}
@@ -112,8 +111,8 @@ module _ (m : Memory) where
     run-told n s =
         by Moved (moves (m .mover))
         (λ v. by (λ (r : Ran). Moved (done (moved (r .turned .device)) (usedCode (r .used) (r .turned .news)))) (ltb 60000 n)
-          (λ h. long-run (ap (λ (x : Mover). inMover m (done x s3)) (mover-just m z v)))
-          (λ h. value (news-below _ _ (few h))))
+        (λ h. long-run (ap (λ (x : Mover). inMover m (done x s3)) (mover-just m z v)))
+        (λ h. value (news-below _ _ (few h))))
         (λ v. no-controller refl)
       where
         few : ltb 60000 n ≡ false → usedOf n (around (m .mover .text) s) (fine (deviceHeld (m .mover) .core)) ≤ 60000

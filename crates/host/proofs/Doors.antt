@@ -1,5 +1,5 @@
 -- The promises of `specs/Door`.
-use mathlib.Core.Path.{_≡_, subst}
+use mathlib.Core.Path.{_≡_, refl, subst}
 use mathlib.Core.Bool.{true}
 use Rattle.machine.specs.Run.{readyOf}
 use Rattle.image.specs.Sound.{flagOf}
@@ -24,6 +24,7 @@ the-door-holds =
       what-is-read-is-written-back = image-written;
       what-is-no-image-stays-none = what-is-no-image-stays-none;
       a-call-tells-a-value-or-changes-nothing = a-call-tells-a-value-or-changes-nothing;
+      the-refusals-lie-above = (refl, refl, refl, refl, refl);
       the-plunger-is-told = is-told 44000 (λ c. c .body .plunger) (λ c v. v .body .plunger);
       the-exact-position-is-told = is-told 44000000000 (λ c. c .body .exact) (λ c v. v .body .exact);
       ready-is-told = is-told 1 (λ c. flagOf (readyOf c)) (λ c v. flag-up-to-1 (readyOf c));

@@ -2,14 +2,14 @@
 use mathlib.Core.Path.{_≡_}
 use mathlib.Core.Bool.{true, false}
 use mathlib.Core.List.{List}
-use Prim.Native.Nat.{ℕ, _<_}
+use Prim.Native.Nat.{ℕ, _+_, _<_}
 use Rattle.basics.specs.Exactly.{Exactly}
 use Rattle.line.specs.declared.Framing.{Framing}
 use Rattle.pipettor.specs.declared.address.Address.{Address}
 use Rattle.pipettor.specs.declared.address.Given.the-variants.{Is}
 use Rattle.pipettor.specs.declared.Controller.{Controller}
 use Rattle.pipettor.specs.Controller.{madeOf}
-use Rattle.host.specs.Host.{Memory, encodeOf, addressHeld, controllerHeld, plungerIn, exactIn, readyIn, errorIn, isImage}
+use Rattle.host.specs.Host.{Memory, encodeOf, addressHeld, controllerHeld, s1, s2, s3, broken, unframed, plungerIn, exactIn, readyIn, errorIn, isImage}
 use Rattle.host.specs.Session.{Sized, Holds, Call, bufferLent, bytesLent, Tells, Asked, callIn, sessionIn, sessionOf}
 
 pub record Door : Type 0 where
@@ -24,6 +24,8 @@ pub record Door : Type 0 where
   pub what-is-no-image-stays-none : (c : Call) (m : Memory) → Sized m → isImage m ≡ false → isImage (callIn c m .memory) ≡ false
   -- a value and a refusal are told apart by 2^63, and a refusal changes nothing; no slice has 2^63 bytes
   pub a-call-tells-a-value-or-changes-nothing : (c : Call) (m : Memory) → Sized m → bytesLent c < 9223372036854775808 → Tells m (bufferLent c) (callIn c m)
+  pub the-refusals-lie-above :
+      (s1 ≡ 9223372036854775808 + 1) × (s2 ≡ 9223372036854775808 + 2) × (s3 ≡ 9223372036854775808 + 3) × (broken ≡ 9223372036854775808 + 256) × (unframed ≡ 9223372036854775808 + 257)
   pub the-plunger-is-told : (wide words small : List ℕ) → Asked 44000 (plungerIn wide words small)
   pub the-exact-position-is-told : (wide words small : List ℕ) → Asked 44000000000 (exactIn wide words small)
   pub ready-is-told : (wide words small : List ℕ) → Asked 1 (readyIn wide words small)
