@@ -1,10 +1,12 @@
 // What more than one crate needs and no device does: bytes by their kind, and bytes laid into a lent buffer.
+#![tactic(auto)]
+
 ghost use Rattle.std.specs.Prelude.{◌≡◌, ◌+◌, ◌≤◌, length};
 ghost use Rattle.basics.specs.Bytes.{digit};
 ghost use Rattle.basics.specs.Lay.{Laid, over};
 
 // How many bytes were laid, or that the buffer has no room for them.
-#[derive(Drop)]
+#[derive(Clone, Copy)]
 pub enum Put {
     Bytes(usize),
     NoRoom,

@@ -1,4 +1,6 @@
 // The bench program.
+#![tactic(auto)]
+
 use desk::Desk;
 
 fn main() {

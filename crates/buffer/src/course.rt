@@ -5,7 +5,7 @@ ghost use Rattle.buffer.specs.Course.{course_of, mark, no_loops, pushed, popped,
 use command::refusal::Refusal;
 use motion::Activity;
 
-#[derive(Drop)]
+#[derive(Clone, Copy)]
 pub enum State {
     Empty,
     Stored,
@@ -15,7 +15,7 @@ pub enum State {
 }
 
 // The columns of docs/BUFFER.md.
-#[derive(Drop)]
+#[derive(Clone, Copy)]
 pub enum Column {
     Empty,
     Stored,
@@ -54,14 +54,14 @@ impl State {
 }
 
 // An open loop: where it starts, and how often it has been gone back to.
-#[derive(Drop)]
+#[derive(Clone, Copy)]
 pub struct Mark {
     pub start: usize,
     pub passes: u32,
 }
 
 // Open loops, the innermost first.
-#[derive(Drop)]
+#[derive(Clone, Copy)]
 pub struct Loops {
     pub depth: usize,
     pub first: Mark,
@@ -71,7 +71,7 @@ pub struct Loops {
 }
 
 // The next command's place, the text's length, the last error, and the column of what was misread, 0 if nothing was.
-#[derive(Drop)]
+#[derive(Clone, Copy)]
 pub struct Course {
     pub at: usize,
     pub len: usize,
@@ -82,14 +82,14 @@ pub struct Course {
 }
 
 // A loop goes round again, having gone back so often, or is over.
-#[derive(Drop)]
+#[derive(Clone, Copy)]
 pub enum Pass {
     Again(u32),
     Over,
 }
 
 // A run goes on, or fails.
-#[derive(Drop)]
+#[derive(Clone, Copy)]
 pub enum Went {
     On(Course),
     Off(Refusal),

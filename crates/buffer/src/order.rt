@@ -8,7 +8,7 @@ use command::refusal::{Refusal, Verdict};
 use text::loops;
 
 // A string without R, a string with R, R, X, C, T and !R.
-#[derive(Drop)]
+#[derive(Clone, Copy)]
 pub enum Action {
     Store,
     Launch,
@@ -20,14 +20,14 @@ pub enum Action {
 }
 
 // A string behind the stored text, or instead of it.
-#[derive(Drop)]
+#[derive(Clone, Copy)]
 pub enum Loading {
     Joined,
     Replacing,
 }
 
 // What else is done to the text that is there, and its run.
-#[derive(Drop)]
+#[derive(Clone, Copy)]
 pub enum Change {
     Begin,
     Resume,
@@ -39,7 +39,7 @@ pub enum Change {
 }
 
 // What an action asks in a state: a refusal, a string to be loaded that runs or waits, or something else.
-#[derive(Drop)]
+#[derive(Clone, Copy)]
 pub enum Order {
     Refuse(Refusal),
     Load(Loading, bool),
@@ -47,7 +47,7 @@ pub enum Order {
 }
 
 // What the lengths of its texts say of an order: a verdict, or that loops decide, of so much of the stored text and so much of what is added.
-#[derive(Drop)]
+#[derive(Clone, Copy)]
 enum Look {
     Says(Verdict),
     Loops(usize, usize),

@@ -1,4 +1,6 @@
 // Standard input's first 250 bytes, 4000 times over: of the controller nothing but `byte` is called. For counting instructions and stack.
+#![tactic(auto)]
+
 ghost use Rattle.pipettor.specs.Valid.{Valid};
 
 use line::dt::Dt;

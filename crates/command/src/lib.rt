@@ -1,4 +1,6 @@
 // Commands: what stands at a place of a text, by 01's command table.
+#![tactic(auto)]
+
 pub mod refusal;
 
 ghost use Rattle.std.specs.Prelude.{◌≡◌, ◌+◌, ◌-◌, ◌^◌, ◌≤◌};
@@ -10,14 +12,14 @@ use refusal::Misread;
 use settings::{Aspect, Pace, Quantity, Range, Settings, Volume, units};
 
 // A, P and D: to a place, up from here, down from here.
-#[derive(Drop)]
+#[derive(Clone, Copy)]
 pub enum Way {
     To,
     Up,
     Down,
 }
 
-#[derive(Drop)]
+#[derive(Clone, Copy)]
 pub enum Command {
     // W: increments a second.
     Initialise(u16),
@@ -45,7 +47,7 @@ pub enum Command {
 }
 
 // A command and the place after it, a refusal, or nothing where the text ends.
-#[derive(Drop)]
+#[derive(Clone, Copy)]
 pub enum Found {
     Command(Command, usize),
     Refused(Misread),
@@ -53,7 +55,7 @@ pub enum Found {
 }
 
 // What a letter of the table stands for.
-#[derive(Drop)]
+#[derive(Clone, Copy)]
 pub enum Letter {
     Home,
     Volume(Way),
@@ -71,21 +73,21 @@ pub enum Letter {
 }
 
 // A number of a command.
-#[derive(Drop)]
+#[derive(Clone, Copy)]
 pub enum Taken {
     Good(u32),
     Bad,
 }
 
 // What p sets, by its first number.
-#[derive(Drop)]
+#[derive(Clone, Copy)]
 pub enum Row {
     Of(Aspect),
     Missing,
 }
 
 // What a letter and its operand text make.
-#[derive(Drop)]
+#[derive(Clone, Copy)]
 pub enum Formed {
     Made(Command),
     NoLetter,

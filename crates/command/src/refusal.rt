@@ -3,7 +3,7 @@ ghost use Rattle.std.specs.Prelude.{◌≡◌};
 ghost use Rattle.command.specs.Numbers.{refusal_number, column_at, refusal_column, verdict_number, first_of};
 
 // The first wrong place of a text.
-#[derive(Drop)]
+#[derive(Clone, Copy)]
 pub enum Misread {
     // A letter that is not allowed here, at its place.
     Letter(usize),
@@ -11,7 +11,7 @@ pub enum Misread {
     Operand { place: usize, read: usize },
 }
 
-#[derive(Drop)]
+#[derive(Clone, Copy)]
 pub enum Refusal {
     Misread(Misread),
     // No report has this number.
@@ -40,7 +40,7 @@ pub enum Refusal {
 }
 
 // That something is refused, and why; or not.
-#[derive(Drop)]
+#[derive(Clone, Copy)]
 pub enum Verdict {
     Fine,
     Refused(Refusal),

@@ -1,4 +1,6 @@
 // Reads texts from standard input, a line to a text, and says of each what stands at its front: a command, in words, with the place behind it, or a refusal with its number and its place.
+#![tactic(auto)]
+
 use command::refusal::Misread;
 use command::{Command, Found, Way};
 use settings::{Aspect, Pace, Volume};

@@ -1,5 +1,7 @@
 // The bench program and the rig: lines in, lines out, after each read. From a read's answer to the bytes that are to be written all is proved, and that the program starts with address 1 and ends with its input or a failed write.
 // Two calls stay outside: that `read_chunk` hands on the chunk and the answer of `read` from descriptor 0, and that `serve` writes the bytes laid down to descriptor 1 and goes by the answer. No contract can say what is read or written.
+#![tactic(auto)]
+
 ghost use Rattle.std.specs.Prelude.{◌≡◌, ◌+◌, ◌-◌, ◌*◌, ◌≤◌, length, take, drop};
 ghost use Rattle.console.specs.Eaten.{eaten_of, ended_line, last_of, brought, ends as Eaten·ends, memory, Gathers, Sound, Eats, Finishes, Reads, SomeRead, Ended};
 
@@ -8,7 +10,7 @@ use desk::Desk;
 use station::Station;
 
 // A station, how many bytes are kept of the line that isn't complete yet, and how many of the output are to be written.
-#[derive(Drop)]
+#[derive(Clone, Copy)]
 pub struct Eaten {
     pub station: Station,
     pub n: usize,
@@ -16,7 +18,7 @@ pub struct Eaten {
 }
 
 // The same after a read, and whether the input is over.
-#[derive(Drop)]
+#[derive(Clone, Copy)]
 pub struct Round {
     pub station: Station,
     pub n: usize,
@@ -25,7 +27,7 @@ pub struct Round {
 }
 
 // How the program ended: its station, whether the input was over, whether the last write took all, and how many reads came before the last.
-#[derive(Drop)]
+#[derive(Clone, Copy)]
 pub struct End {
     pub station: Station,
     pub over: bool,

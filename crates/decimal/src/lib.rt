@@ -1,5 +1,7 @@
 // Numbers written in decimal into a buffer that the caller lends: whole of 32 or 64 bits, with one decimal, with three.
 // How many digits a number has is found first; then each digit is written once, into its final place, from the rightmost.
+#![tactic(auto)]
+
 ghost use Rattle.std.specs.Prelude.{◌≡◌, ◌+◌, ◌-◌, ◌/◌, ◌≤◌, ◌^◌, length};
 ghost use Rattle.basics.specs.Lay.{Laid, over};
 ghost use Rattle.decimal.specs.Digits.{last_digits, long_of, count_of, fixed_of};
@@ -8,7 +10,7 @@ ghost use Rattle.decimal.specs.Written.{behind, behind_size, written_of};
 use basics::Put;
 
 // The decimals of a fraction: one for increments a second, three for µL.
-#[derive(Drop)]
+#[derive(Clone, Copy)]
 enum Decimals {
     One,
     Three,

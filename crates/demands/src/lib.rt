@@ -1,1 +1,2 @@
 // No code: theorems over the pipettor's calls.
+#![tactic(auto)]

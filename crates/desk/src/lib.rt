@@ -1,4 +1,6 @@
 // Lines of the bench program and of the training rig: what a line asks, what is printed of an answer, where a line ends.
+#![tactic(auto)]
+
 pub mod hex;
 
 ghost use Rattle.std.specs.Prelude.{◌≡◌, length};
@@ -11,14 +13,14 @@ use line::Framing;
 use operand::Number;
 
 // Whose lines: the bench program's, or the rig's, which are those and more.
-#[derive(Drop)]
+#[derive(Clone, Copy)]
 pub enum Desk {
     Bench,
     Rig,
 }
 
 // What a number in a line counts: ticks that pass, ticks that a run may take, bytes of the answer buffers, an address in DT framing, one in OEM framing, a tip, a pressure, a pressure below 0.
-#[derive(Drop)]
+#[derive(Clone, Copy)]
 pub enum Quantity {
     Ticks,
     Run,
@@ -31,7 +33,7 @@ pub enum Quantity {
 }
 
 // How a line begins.
-#[derive(Drop)]
+#[derive(Clone, Copy)]
 enum Word {
     Frame,
     Number(Quantity),
@@ -41,7 +43,7 @@ enum Word {
 }
 
 // A frame, whose text stands behind the first two bytes; a number; the host's stop; raw bytes, which stand behind the first two; a wrong line.
-#[derive(Drop)]
+#[derive(Clone, Copy)]
 pub enum Asked {
     Send,
     Number(Quantity, u32),
@@ -50,7 +52,7 @@ pub enum Asked {
     Wrong,
 }
 
-#[derive(Drop)]
+#[derive(Clone, Copy)]
 enum Count {
     Is(u32),
     Not,

@@ -1,4 +1,6 @@
 // Runs the rows of settings' table through the code: the limits of 01's command table with their neighbours, the defaults, and 01's examples of numbers, a line to a row.
+#![tactic(auto)]
+
 use basics::Put;
 use settings::{Pace, Quantity, Range, Settings, Volume, units};
 

@@ -1,4 +1,6 @@
 // The controller for hosts in C and Rust: every call is lent the memory that the host keeps it in, and refuses memory that holds no controller. No function has a premise.
+#![tactic(auto)]
+
 ghost use Rattle.std.specs.Prelude.{◌≡◌, ltb, length};
 ghost use Rattle.motion.specs.Bodies.{sensing};
 ghost use Rattle.machine.specs.Valid.{Valid};
@@ -27,7 +29,7 @@ pub const BROKEN: u64 = 9_223_372_036_854_776_064;
 pub const UNFRAMED: u64 = 9_223_372_036_854_776_065;
 
 // A framing, or that the number is none.
-#[derive(Drop)]
+#[derive(Clone, Copy)]
 pub enum Framed {
     Is(Framing),
     Unframed,
@@ -104,14 +106,14 @@ fn used_code(used: Used, news: News) -> u64
 }
 
 // A device's numbers after ticks, and what they tell.
-#[derive(Drop)]
+#[derive(Clone, Copy)]
 pub struct Gone {
     pub pose: Pose,
     pub news: News,
 }
 
 // The same of a run.
-#[derive(Drop)]
+#[derive(Clone, Copy)]
 pub struct Run {
     pub gone: Gone,
     pub used: Used,

@@ -1,4 +1,6 @@
 // A controller's numbers in memory that the host keeps: each at its own width.
+#![tactic(auto)]
+
 pub mod numbers;
 pub mod progress;
 pub mod receiver;
@@ -18,7 +20,7 @@ use receiver::Held;
 use settings::{Detection, Settings};
 
 // A device without its text.
-#[derive(Drop)]
+#[derive(Clone, Copy)]
 pub struct Pose {
     pub tip: bool,
     pub core: Core,

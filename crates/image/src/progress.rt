@@ -8,7 +8,7 @@ use level::Search;
 use motion::{Activity, Travel};
 
 // Which state it is, and what goes with it; what doesn't is 0.
-#[derive(Drop)]
+#[derive(Clone, Copy)]
 pub struct Progress {
     pub tag: u8,
     pub from: u32,

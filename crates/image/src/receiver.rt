@@ -8,7 +8,7 @@ use line::dt::Dt;
 use line::oem::{Head, Oem};
 
 // Which line it is, and what goes with it; what doesn't is 0.
-#[derive(Drop)]
+#[derive(Clone, Copy)]
 pub struct Held {
     pub tag: u8,
     pub owner: u8,

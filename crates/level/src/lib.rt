@@ -1,18 +1,20 @@
 // Liquid level detection: what a reading of the pressure is, and a search for the liquid, tick by tick. Nothing here knows a body or a text.
+#![tactic(auto)]
+
 ghost use Rattle.std.specs.Prelude.{◌≡◌, ◌≤◌};
 ghost use Rattle.level.specs.Level.{pressure_of, apart, begun, later_of, left_of, limit_of, gone_in, plunger_in, far, count_with, counted_as, finding_of, sought_of, SearchOk};
 
 use settings::{Detection, Settings, units};
 
 // A reading: outside -32767 to 32767, or so many counts above -32767.
-#[derive(Drop)]
+#[derive(Clone, Copy)]
 pub enum Pressure {
     Beyond,
     Counts(u32),
 }
 
 // A search: where it began, the zero, its ticks, and how many readings in a row were far from the zero.
-#[derive(Drop)]
+#[derive(Clone, Copy)]
 pub struct Search {
     pub from: u32,
     pub zero: u32,
@@ -21,7 +23,7 @@ pub struct Search {
 }
 
 // What a tick finds: too much pressure, the liquid, that there is no way left, or nothing yet.
-#[derive(Drop)]
+#[derive(Clone, Copy)]
 pub enum Finding {
     TooMuch,
     Found,
@@ -30,7 +32,7 @@ pub enum Finding {
 }
 
 // A tick of a search: where the plunger is, and what was found.
-#[derive(Drop)]
+#[derive(Clone, Copy)]
 pub struct Sought {
     pub plunger: u32,
     pub finding: Finding,

@@ -5,14 +5,14 @@ ghost use Rattle.line.specs.Dt.{waits, whole, end_of, take_of, hear_of};
 use crate::{Deed, printable};
 
 // Outside a frame; after `/`; in a frame to an address, with so many data bytes, 321 for more than 320.
-#[derive(Drop)]
+#[derive(Clone, Copy)]
 pub enum Dt {
     Outside,
     Started,
     Collecting(u8, u32),
 }
 
-#[derive(Drop)]
+#[derive(Clone, Copy)]
 pub struct Step {
     pub dt: Dt,
     pub deed: Deed,

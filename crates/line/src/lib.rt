@@ -1,4 +1,6 @@
 // Frames from the wire and answers back to it. What they carry is not known here.
+#![tactic(auto)]
+
 pub mod dt;
 pub mod oem;
 
@@ -13,7 +15,7 @@ use dt::Dt;
 use oem::Oem;
 
 // How frames are wrapped on the line, chosen when a controller is made.
-#[derive(Drop)]
+#[derive(Clone, Copy)]
 pub enum Framing {
     Dt,
     Oem,
@@ -21,7 +23,7 @@ pub enum Framing {
 
 // What a byte asks for: nothing; to be kept at a place of the frame; that a frame to an address, with so many
 // data bytes, 321 for more than 320, is acted on.
-#[derive(Drop)]
+#[derive(Clone, Copy)]
 pub enum Deed {
     Nothing,
     Keep(usize),
@@ -42,13 +44,13 @@ impl Deed {
 }
 
 // A receiver of either framing.
-#[derive(Drop)]
+#[derive(Clone, Copy)]
 pub enum Line {
     Dt(Dt),
     Oem(Oem),
 }
 
-#[derive(Drop)]
+#[derive(Clone, Copy)]
 pub struct Heard {
     pub line: Line,
     pub deed: Deed,
@@ -132,7 +134,7 @@ pub fn keep(frame: &mut [u8; 320], deed: Deed, b: u8)
 }
 
 // What a report says, apart from how it is written.
-#[derive(Drop)]
+#[derive(Clone, Copy)]
 pub enum Report {
     Nothing,
     Character(u8),
@@ -142,7 +144,7 @@ pub enum Report {
 }
 
 // An answer of so many bytes, or that the buffer lent is shorter than 32 bytes.
-#[derive(Drop)]
+#[derive(Clone, Copy)]
 pub enum Said {
     Answer(usize),
     S1,

@@ -5,7 +5,7 @@ ghost use Rattle.line.specs.Oem.{sequenced, head_of, with_byte, waits, header_of
 use crate::{Deed, printable};
 
 // Of a frame in hand: to whom it goes, its sequence byte, and the exclusive-or of all its bytes so far.
-#[derive(Drop)]
+#[derive(Clone, Copy)]
 pub struct Head {
     pub address: u8,
     pub sequence: u8,
@@ -13,7 +13,7 @@ pub struct Head {
 }
 
 // Outside a frame; after 02h; after the address; in a frame, with so many data bytes, 321 for more than 320; after its 03h, with the sum to come.
-#[derive(Drop)]
+#[derive(Clone, Copy)]
 pub enum Oem {
     Outside,
     Started,
@@ -22,7 +22,7 @@ pub enum Oem {
     Ended(Head, u32),
 }
 
-#[derive(Drop)]
+#[derive(Clone, Copy)]
 pub struct Step {
     pub oem: Oem,
     pub deed: Deed,

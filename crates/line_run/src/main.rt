@@ -1,11 +1,13 @@
 // Bytes given to the receivers of both framings, and answers written into lent buffers: prints what came back.
+#![tactic(auto)]
+
 use libc::STDOUT_FILENO;
 use line::dt::Dt;
 use line::oem::{Head, Oem};
 use line::{Deed, Framing, Line, Report, Said};
 
 // The line and the data of the frame in hand.
-#[derive(Drop)]
+#[derive(Clone, Copy)]
 struct Receiver {
     line: Line,
     frame: [u8; 320],

@@ -16,7 +16,7 @@ use command::refusal::Verdict;
 use motion::Activity;
 
 // What a string or a control leaves of a core, and whether it was refused.
-#[derive(Drop)]
+#[derive(Clone, Copy)]
 pub struct Done {
     pub core: Core,
     pub verdict: Verdict,

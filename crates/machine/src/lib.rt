@@ -1,4 +1,6 @@
 // The step machine: what a tick, a string and a control do to the plunger and the buffer.
+#![tactic(auto)]
+
 pub mod act;
 pub mod skip;
 pub mod step;
@@ -13,7 +15,7 @@ use motion::{Body, Sense};
 use step::{Core, News};
 
 // The text's array stands beside the state, and whether the last tick saw a tip.
-#[derive(Drop)]
+#[derive(Clone, Copy)]
 pub struct Device {
     pub text: [u8; 256],
     pub tip: bool,
@@ -21,20 +23,20 @@ pub struct Device {
 }
 
 // How many ticks a run used, or that it asked for more than 60000.
-#[derive(Drop)]
+#[derive(Clone, Copy)]
 pub enum Used {
     Ticks(u32),
     S3,
 }
 
 // A device after ticks, and what they tell.
-#[derive(Drop)]
+#[derive(Clone, Copy)]
 pub struct Turned {
     pub device: Device,
     pub news: News,
 }
 
-#[derive(Drop)]
+#[derive(Clone, Copy)]
 pub struct Ran {
     pub turned: Turned,
     pub used: Used,

@@ -10,7 +10,7 @@ use buffer::course::{Course, State};
 use motion::{Activity, Travel};
 
 // A core, and how many ticks were passed over to come there.
-#[derive(Drop)]
+#[derive(Clone, Copy)]
 pub struct Skipped {
     pub core: Core,
     pub used: u32,

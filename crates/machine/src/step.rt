@@ -12,28 +12,28 @@ use command::Found;
 use command::refusal::{Refusal, Verdict};
 use motion::{Activity, Body, Effect, Sense};
 
-#[derive(Drop)]
+#[derive(Clone, Copy)]
 pub struct Core {
     pub body: Body,
     pub course: Course,
 }
 
 // What ticks tell the host: why the run fails if it does, and whether a tip is to be ejected.
-#[derive(Drop)]
+#[derive(Clone, Copy)]
 pub struct News {
     pub failed: Verdict,
     pub eject: bool,
 }
 
 // What a tick hands back: the core, and what it tells.
-#[derive(Drop)]
+#[derive(Clone, Copy)]
 pub struct Stepped {
     pub core: Core,
     pub news: News,
 }
 
 // What ticks hand back, and how many they were.
-#[derive(Drop)]
+#[derive(Clone, Copy)]
 pub struct Ticked {
     pub stepped: Stepped,
     pub used: u32,

@@ -1,4 +1,6 @@
 // The plunger, its exact position and the settings: what a command does to them, and how a movement goes on. Nothing here knows a place in a text.
+#![tactic(auto)]
+
 ghost use Rattle.std.specs.Prelude.{◌≡◌, true, ◌≤◌};
 ghost use Rattle.settings.specs.Limits.{travel_most};
 ghost use Rattle.settings.specs.Units.{rate_of};
@@ -14,7 +16,7 @@ use level::{Finding, Pressure, Search};
 use settings::{Aspect, Detection, Pace, Settings, Volume, units};
 
 // The exact position counts millionths of an increment.
-#[derive(Drop)]
+#[derive(Clone, Copy)]
 pub struct Body {
     pub exact: u64,
     pub plunger: u32,
@@ -23,7 +25,7 @@ pub struct Body {
 }
 
 // A movement from one place to another at a speed in tenths of an increment a second, after so many ticks.
-#[derive(Drop)]
+#[derive(Clone, Copy)]
 pub struct Travel {
     pub from: u32,
     pub goal: u32,
@@ -32,14 +34,14 @@ pub struct Travel {
 }
 
 // What a host hands in with a tick: whether it sees a tip, and the pressure it reads.
-#[derive(Drop)]
+#[derive(Clone, Copy)]
 pub struct Sense {
     pub tip: bool,
     pub reading: i32,
 }
 
 // What is in progress. A delay has so many ticks left. B moves to where it begins, with the reading that is the zero, and then searches. The host was asked to eject the tip, and the next tick judges it.
-#[derive(Drop)]
+#[derive(Clone, Copy)]
 pub enum Activity {
     Initialising(Travel),
     Moving(Travel),
@@ -51,7 +53,7 @@ pub enum Activity {
 }
 
 // What a command that is taken does, or a tick of what is in progress: it goes on, has ended, or fails, with the body it leaves; or the host is asked to eject; or a loop begins or ends.
-#[derive(Drop)]
+#[derive(Clone, Copy)]
 pub enum Effect {
     Goes(Body, Activity),
     Ends(Body),
@@ -62,7 +64,7 @@ pub enum Effect {
 }
 
 // The exact position that a move asks for.
-#[derive(Drop)]
+#[derive(Clone, Copy)]
 pub enum Target {
     At(u64),
     Outside,

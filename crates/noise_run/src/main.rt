@@ -1,11 +1,13 @@
 // Noise and damaged DT frames, each followed by a whole frame, to one receiver; the same whole frames to fresh receivers. Prints how often both read the same, and as it was sent.
+#![tactic(auto)]
+
 ghost use Rattle.std.specs.Prelude.{◌<◌};
 
 use libc::STDOUT_FILENO;
 use line::dt::Dt;
 
 // The receiver's state and the data of the frame in hand.
-#[derive(Drop)]
+#[derive(Clone, Copy)]
 struct Receiver {
     line: Dt,
     frame: [u8; 320],

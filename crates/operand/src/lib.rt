@@ -1,4 +1,6 @@
 // Operand texts: the numbers behind a command's letter.
+#![tactic(auto)]
+
 ghost use Rattle.std.specs.Prelude.{◌≡◌, true, ◌+◌, ◌^◌, ◌≤◌, ◌<◌, length};
 ghost use Rattle.basics.specs.Bytes.{digit, every};
 ghost use Rattle.operand.specs.Text.{has, run, operand_text};
@@ -7,7 +9,7 @@ ghost use Rattle.operand.specs.Number.{decimals_of, followed_of, number_of, read
 ghost use Rattle.operand.specs.Steps.{Spelt, Scaled, comma_of};
 
 // Digits; digits, points and commas; all but a comma.
-#[derive(Drop)]
+#[derive(Clone, Copy)]
 pub enum Class {
     Digit,
     Operand,
@@ -15,7 +17,7 @@ pub enum Class {
 }
 
 // A number in thousandths with the decimals that were written, none at all, or text that is no number.
-#[derive(Drop)]
+#[derive(Clone, Copy)]
 pub enum Number {
     Absent,
     Is { thousandths: u32, decimals: usize },
@@ -24,13 +26,13 @@ pub enum Number {
 }
 
 // What a whole text is, with how many of its characters were read: all where it is well formed.
-#[derive(Drop)]
+#[derive(Clone, Copy)]
 pub struct Single {
     pub number: Number,
     pub read: usize,
 }
 
-#[derive(Drop)]
+#[derive(Clone, Copy)]
 pub struct Pair {
     pub first: Number,
     pub second: Number,

@@ -16,14 +16,14 @@ use reports::Told;
 use text::{Control, Data};
 
 // No frame to us, or its data.
-#[derive(Drop)]
+#[derive(Clone, Copy)]
 pub enum Got {
     Nothing,
     Data(Data),
 }
 
 // What the device is asked: to be left alone, to take note of a refusal, or a string or a control.
-#[derive(Drop)]
+#[derive(Clone, Copy)]
 pub enum Task {
     Leave,
     Refuse(Refusal),
@@ -31,7 +31,7 @@ pub enum Task {
 }
 
 // What is answered: nothing, or a report with a code in the status byte.
-#[derive(Drop)]
+#[derive(Clone, Copy)]
 pub enum Outcome {
     Mute,
     Tell(Report, u8),

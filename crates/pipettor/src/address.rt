@@ -2,7 +2,7 @@
 ghost use Rattle.std.specs.Prelude.{◌≡◌};
 ghost use Rattle.pipettor.specs.Address.{letter_of, address_of};
 
-#[derive(Drop)]
+#[derive(Clone, Copy)]
 pub enum Address {
     One,
     Two,
@@ -16,7 +16,7 @@ pub enum Address {
 }
 
 // An address, or that the number is none.
-#[derive(Drop)]
+#[derive(Clone, Copy)]
 pub enum Given {
     Is(Address),
     S2,

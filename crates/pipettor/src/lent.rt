@@ -13,7 +13,7 @@ use machine::act::Done;
 use machine::step::Core;
 
 // A controller without its arrays.
-#[derive(Drop)]
+#[derive(Clone, Copy)]
 pub struct Parts {
     pub address: Address,
     pub line: Line,
@@ -21,7 +21,7 @@ pub struct Parts {
     pub core: Core,
 }
 
-#[derive(Drop)]
+#[derive(Clone, Copy)]
 pub struct Spoke {
     pub parts: Parts,
     pub said: Said,

@@ -1,4 +1,6 @@
 // The controller of one pipettor: bytes in, answers out, ticks between them.
+#![tactic(auto)]
+
 mod acting;
 pub mod address;
 pub mod lent;
@@ -18,7 +20,7 @@ use machine::{Device, Turned, Used};
 use motion::Sense;
 
 // The receiver's line and the frame in hand; the buffer, its text and the plunger.
-#[derive(Drop)]
+#[derive(Clone, Copy)]
 pub struct Controller {
     pub address: Address,
     pub line: Line,
@@ -27,41 +29,41 @@ pub struct Controller {
 }
 
 // Nothing, an answer of so many bytes, or that the buffer lent is shorter than 32 bytes.
-#[derive(Drop)]
+#[derive(Clone, Copy)]
 pub enum Said {
     Silent,
     Answer(usize),
     S1,
 }
 
-#[derive(Drop)]
+#[derive(Clone, Copy)]
 pub struct Reply {
     pub controller: Controller,
     pub said: Said,
 }
 
 // A controller that has taken so many bytes.
-#[derive(Drop)]
+#[derive(Clone, Copy)]
 pub struct Listened {
     pub controller: Controller,
     pub n: usize,
 }
 
 // A controller after ticks, and what they tell.
-#[derive(Drop)]
+#[derive(Clone, Copy)]
 pub struct Ticked {
     pub controller: Controller,
     pub news: News,
 }
 
-#[derive(Drop)]
+#[derive(Clone, Copy)]
 pub struct Ran {
     pub ticked: Ticked,
     pub used: Used,
 }
 
 // A line that has taken so many bytes.
-#[derive(Drop)]
+#[derive(Clone, Copy)]
 pub struct Taken {
     pub line: Line,
     pub n: usize,

@@ -1,4 +1,6 @@
 // The controller called as a host calls it: every address, bytes by themselves with marked and with short buffers, ticks between them, noise, stop in every state, runs that are too long and runs that are counted. Prints what came back.
+#![tactic(auto)]
+
 ghost use Rattle.std.specs.Prelude.{◌≤◌};
 ghost use Rattle.pipettor.specs.Valid.{Valid};
 
@@ -142,7 +144,7 @@ fn tick(c: Controller) -> Controller
 }
 
 // How bytes are given: in a line; each with a buffer of 32 dots, or of 40; or of 32, with a tick after each.
-#[derive(Drop)]
+#[derive(Clone, Copy)]
 enum Way {
     Line,
     Marked,

@@ -1,4 +1,6 @@
 // What lines print: laid into the output from a place on. Each function says where it ends.
+#![tactic(auto)]
+
 ghost use Rattle.std.specs.Prelude.{◌+◌, ◌*◌, ◌≤◌, ◌++◌, length};
 ghost use Rattle.decimal.specs.Digits.{digits_of, long_of};
 ghost use Rattle.desk.specs.Hex.{hex_of};

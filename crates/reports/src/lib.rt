@@ -1,4 +1,6 @@
 // Reports: what Q, ? and f say.
+#![tactic(auto)]
+
 ghost use Rattle.std.specs.Prelude.{◌≡◌, ◌≤◌};
 ghost use Rattle.settings.specs.Units.{flow_of, nanolitres_of};
 ghost use Rattle.settings.specs.Limits.{Kept};
@@ -12,7 +14,7 @@ use settings::{Detection, Settings, units};
 use text::Question;
 
 // What a report says, or that there is none of this number.
-#[derive(Drop)]
+#[derive(Clone, Copy)]
 pub enum Told {
     Says(Report),
     No,

@@ -1,4 +1,6 @@
 // The training rig.
+#![tactic(auto)]
+
 use desk::Desk;
 
 fn main() {

@@ -1,11 +1,13 @@
 // What the controller is set to, the limits and defaults of 01's command table, and the arithmetic of its units.
+#![tactic(auto)]
+
 pub mod units;
 
 ghost use Rattle.std.specs.Prelude.{◌≡◌};
 ghost use Rattle.settings.specs.Limits.{◌to◌, within, range_of, usual_of, speeds_of, flows_of, usual_speed, aspects_of, usual_aspect, aspect_set, usual_detection, usual_settings};
 
 // The three speeds: V, v and c.
-#[derive(Drop)]
+#[derive(Clone, Copy)]
 pub enum Pace {
     Top,
     Start,
@@ -13,7 +15,7 @@ pub enum Pace {
 }
 
 // What p sets, p0 to p6.
-#[derive(Drop)]
+#[derive(Clone, Copy)]
 pub enum Aspect {
     Threshold,
     Duration,
@@ -25,7 +27,7 @@ pub enum Aspect {
 }
 
 // What else a number of the command table can be.
-#[derive(Drop)]
+#[derive(Clone, Copy)]
 pub enum Quantity {
     Home,
     Increments,
@@ -39,21 +41,21 @@ pub enum Quantity {
 }
 
 // From least to most, both included.
-#[derive(Drop)]
+#[derive(Clone, Copy)]
 pub struct Range {
     pub least: u32,
     pub most: u32,
 }
 
 // A volume: increments, or nL where micro is true.
-#[derive(Drop)]
+#[derive(Clone, Copy)]
 pub struct Volume {
     pub amount: u32,
     pub micro: bool,
 }
 
 // What a search for the liquid goes by: p0 to p6, the speed in tenths of an increment a second.
-#[derive(Drop)]
+#[derive(Clone, Copy)]
 pub struct Detection {
     pub threshold: u32,
     pub duration: u32,
@@ -65,7 +67,7 @@ pub struct Detection {
 }
 
 // Speeds in tenths of an increment a second; rate is 01's C, millionths of an increment for a nL.
-#[derive(Drop)]
+#[derive(Clone, Copy)]
 pub struct Settings {
     pub top: u32,
     pub start: u32,

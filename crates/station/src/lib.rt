@@ -1,4 +1,6 @@
 // A host's part: what a line of the bench program or of the training rig does to a controller, and what it prints.
+#![tactic(auto)]
+
 ghost use Rattle.std.specs.Prelude.{◌≡◌, [], ◌+◌, ◌*◌, ◌≤◌, length, eqb, pos, neg_ℤ};
 ghost use Rattle.desk.specs.Desk.{most_of};
 ghost use Rattle.desk.specs.Hex.{bytes_in};
@@ -14,7 +16,7 @@ use pipettor::address::{Address, Given};
 use pipettor::{Controller, Said};
 
 // Whose lines are taken, how many bytes the answer buffers have, what the host senses, and the controller.
-#[derive(Drop)]
+#[derive(Clone, Copy)]
 pub struct Station {
     pub desk: Desk,
     pub lend: usize,
@@ -23,14 +25,14 @@ pub struct Station {
 }
 
 // A station after a line, and where what the line prints ends.
-#[derive(Drop)]
+#[derive(Clone, Copy)]
 pub struct Replied {
     pub station: Station,
     pub end: usize,
 }
 
 // A station after a byte, and what was said to it.
-#[derive(Drop)]
+#[derive(Clone, Copy)]
 struct Told {
     station: Station,
     said: Said,

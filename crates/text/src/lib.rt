@@ -1,4 +1,6 @@
 // Texts and data: which strings, controls and reports there are, and whether a text reads and its loops are right.
+#![tactic(auto)]
+
 pub mod loops;
 
 ghost use Rattle.std.specs.Prelude.{◌≡◌, length, ◌<◌};
@@ -10,14 +12,14 @@ use command::refusal::Misread;
 use operand::Number;
 
 // A text that reads, or its first wrong place.
-#[derive(Drop)]
+#[derive(Clone, Copy)]
 pub enum Checked {
     Fine,
     Wrong(Misread),
 }
 
 // Q and ? with their number, and f.
-#[derive(Drop)]
+#[derive(Clone, Copy)]
 pub enum Question {
     Query(u32),
     Value(u32),
@@ -25,7 +27,7 @@ pub enum Question {
 }
 
 // R, T, X, C and !R.
-#[derive(Drop)]
+#[derive(Clone, Copy)]
 pub enum Control {
     Run,
     Stop,
@@ -35,14 +37,14 @@ pub enum Control {
 }
 
 // The number of a report: 0 where none is written.
-#[derive(Drop)]
+#[derive(Clone, Copy)]
 pub enum Asked {
     Number(u32),
     Wrong,
 }
 
 // What data are. A text is their first `size` bytes, to be run or stored.
-#[derive(Drop)]
+#[derive(Clone, Copy)]
 pub enum Data {
     Report(Question),
     WrongReport,

@@ -6,7 +6,7 @@ ghost use Rattle.text.specs.Loops.{part_of, level_of, level_read, loops_in};
 use command::{Command, Found};
 
 // How many loops are open, or that a command breaks the rules.
-#[derive(Drop)]
+#[derive(Clone, Copy)]
 pub enum Level {
     At(usize),
     Broken,

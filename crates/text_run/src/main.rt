@@ -1,4 +1,6 @@
 // Reads data from standard input, a line to each, and says what they are once their spaces are dropped: a report, a control, a text and its loops, or why they are refused.
+#![tactic(auto)]
+
 ghost use Rattle.std.specs.Prelude.{◌≡◌};
 ghost use Rattle.text.specs.Data.{received_of};
 

@@ -1,4 +1,6 @@
 // Movement ticks by the million, for counting instructions: `t` on standard input is a million through `tick`, `r` a million through `run`.
+#![tactic(auto)]
+
 ghost use Rattle.pipettor.specs.Valid.{Valid};
 
 use line::Framing;

@@ -36,11 +36,11 @@ module _ (xs : List ℕ) (at : ℕ) (before : List ℕ) where
         let all : i ≡ length xs = omega arith in
         r.same ∙ rw (all, take-length)
 
-abbrev invariant-loop : tie.invariant-loop
-invariant-loop bytes buf₀ at i₀ buf i = Copied bytes at buf₀ buf i
+abbrev invariant-loop-i : tie.invariant-loop-i
+invariant-loop-i bytes buf₀ at i₀ buf i = Copied bytes at buf₀ buf i
 
-abbrev decreases-loop : tie.decreases-loop
-decreases-loop bytes buf₀ at i₀ buf i = length bytes - i
+abbrev decreases-loop-i : tie.decreases-loop-i
+decreases-loop-i bytes buf₀ at i₀ buf i = length bytes - i
 
 ruleset laws = (start, again, end)
 
@@ -48,8 +48,8 @@ pub copy_spec : {M : Type 1} → statement M
 copy_spec =
     tie.close
     (tie.spec
-    invariant-loop
-    decreases-loop
+    invariant-loop-i
+    decreases-loop-i
     (λ c. search laws)
     (λ c. search rules)
     (λ c. search rules)

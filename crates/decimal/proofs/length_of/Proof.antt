@@ -44,11 +44,11 @@ module _ (n rest i : ℕ) (c : Counted n rest i) where
       (ap (λ (k : ℕ). trim (last_digits k n)) all ∙ trim_idle (19 - i) (suc i) n (omega arith) (rw (pow-succ' 10 i) below)
       ∙ trim_full i n low (λ g. omega (arith, c.same, c.some g)))
 
-abbrev invariant-loop : tie.invariant-loop
-invariant-loop n rest₀ lower₀ rest lower = Counted n rest lower
+abbrev invariant-loop-rest : tie.invariant-loop-rest
+invariant-loop-rest n rest₀ lower₀ rest lower = Counted n rest lower
 
-abbrev decreases-loop : tie.decreases-loop
-decreases-loop n rest₀ lower₀ rest lower = rest
+abbrev decreases-loop-rest : tie.decreases-loop-rest
+decreases-loop-rest n rest₀ lower₀ rest lower = rest
 
 ruleset laws = (rules, start, again, done)
 
@@ -56,8 +56,8 @@ pub length_of_spec : {M : Type 1} → statement M
 length_of_spec =
     tie.close
     (tie.spec
-    invariant-loop
-    decreases-loop
+    invariant-loop-rest
+    decreases-loop-rest
     (λ c. search laws)
     (λ c. search laws)
     (λ c. search laws)

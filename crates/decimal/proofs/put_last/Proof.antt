@@ -55,11 +55,11 @@ module _ (k n end : ℕ) (before : List ℕ) where
         let here : i ≡ end - k = omega arith in
         l.same ∙ rw here (ap (λ (x : List ℕ). over x (end - k) before) (rw (last_none (i - (end - k)) rest (omega arith)) at l.digits))
 
-abbrev invariant-loop : tie.invariant-loop
-invariant-loop k n buf₀ end start rest₀ i₀ buf rest i = Laying k n end buf₀ buf rest i × (start ≤ i)
+abbrev invariant-loop-i : tie.invariant-loop-i
+invariant-loop-i k n buf₀ end start rest₀ i₀ buf rest i = Laying k n end buf₀ buf rest i × (start ≤ i)
 
-abbrev decreases-loop : tie.decreases-loop
-decreases-loop k n buf₀ end start rest₀ i₀ buf rest i = i
+abbrev decreases-loop-i : tie.decreases-loop-i
+decreases-loop-i k n buf₀ end start rest₀ i₀ buf rest i = i
 
 ruleset laws = (rules, start, within, again, done, long)
 
@@ -67,8 +67,8 @@ pub put_last_spec : {M : Type 1} → statement M
 put_last_spec =
     tie.close
     (tie.spec
-    invariant-loop
-    decreases-loop
+    invariant-loop-i
+    decreases-loop-i
     (λ c. search laws)
     (λ c. search laws)
     (λ c. search laws)

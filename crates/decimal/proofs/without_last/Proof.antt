@@ -22,11 +22,11 @@ module _ (k n : ℕ) where
     done : k ≤ i → rest ≡ n / 10 ^ k
     done h = let all : i ≡ k = omega (arith, l.within) in l.same ∙ rw all
 
-abbrev invariant-loop : tie.invariant-loop
-invariant-loop k n rest₀ i₀ rest i = Left k n rest i
+abbrev invariant-loop-i : tie.invariant-loop-i
+invariant-loop-i k n rest₀ i₀ rest i = Left k n rest i
 
-abbrev decreases-loop : tie.decreases-loop
-decreases-loop k n rest₀ i₀ rest i = k - i
+abbrev decreases-loop-i : tie.decreases-loop-i
+decreases-loop-i k n rest₀ i₀ rest i = k - i
 
 ruleset laws = (rules, start, again, done)
 
@@ -34,8 +34,8 @@ pub without_last_spec : {M : Type 1} → statement M
 without_last_spec =
     tie.close
     (tie.spec
-    invariant-loop
-    decreases-loop
+    invariant-loop-i
+    decreases-loop-i
     (λ c. search laws)
     (λ c. search laws)
     (λ c. search laws)

@@ -31,11 +31,11 @@ module _ (class : Class) (t : List ℕ) where
       again : x ≡ true → Ran class t (i + 1)
       again q = let l = ap length (run_more class t i h (sym e ∙ q)) in record { within = omega arith; same = omega arith }
 
-abbrev invariant-loop : tie.invariant-loop
-invariant-loop t class i₀ i = Ran class t i
+abbrev invariant-loop-i : tie.invariant-loop-i
+invariant-loop-i t class i₀ i = Ran class t i
 
-abbrev decreases-loop : tie.decreases-loop
-decreases-loop t class i₀ i = length t - i
+abbrev decreases-loop-i : tie.decreases-loop-i
+decreases-loop-i t class i₀ i = length t - i
 
 ruleset laws = (rules, start, again, stop, end)
 
@@ -43,8 +43,8 @@ pub run_length_spec : {M : Type 1} → statement M
 run_length_spec =
     tie.close
     (tie.spec
-    invariant-loop
-    decreases-loop
+    invariant-loop-i
+    decreases-loop-i
     (λ c. search laws)
     (λ c. search laws)
     (λ c κs. search laws)

@@ -60,11 +60,11 @@ module _ (t : List ℕ) where
               small = rw (add-one, pow-suc) (omega arith);
             }
 
-abbrev invariant-loop : tie.invariant-loop
-invariant-loop t v₀ i₀ v i = Read t v i
+abbrev invariant-loop-i : tie.invariant-loop-i
+invariant-loop-i t v₀ i₀ v i = Read t v i
 
-abbrev decreases-loop : tie.decreases-loop
-decreases-loop t v₀ i₀ v i = length t - i
+abbrev decreases-loop-i : tie.decreases-loop-i
+decreases-loop-i t v₀ i₀ v i = length t - i
 
 ruleset laws = (rules, start, end, low, times, plus, again)
 
@@ -72,8 +72,8 @@ pub value_spec : {M : Type 1} → statement M
 value_spec =
     tie.close
     (tie.spec
-    invariant-loop
-    decreases-loop
+    invariant-loop-i
+    decreases-loop-i
     (λ c. search laws)
     (λ c. search laws)
     (λ c. search laws)
