@@ -87,5 +87,5 @@ felt_spec =
     (λ c. search laws)
     (λ c. search laws)
     (λ c. search laws)
-    (λ c. cast_fits _ c.before.before.ranges.reading c.before.if1.false c.if2.false)
+    (λ c. cast_fits _ c.ranges.reading c.if-reading-ltminus32767.false c.if-reading-gt32767.false)
     (λ c. search laws))

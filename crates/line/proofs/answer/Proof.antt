@@ -19,10 +19,6 @@ answer_spec =
     (λ c. search laws)
     (λ c. search laws)
     (λ c. search laws)
-    (λ c κs.
-    let put = c.before.before.before.before.before.before in
-    let head = put.before.before.before.before in
-    let start = head.before.before.before in
-    room_left _ _ _ _ _ _ _ _ _ put.put-report.ensures head.lay.ensures start.start.ensures start.before.if1.false _ c.before.before.size.given.1)
+    (λ c κs. room_left _ _ _ _ _ _ _ _ _ c.put_report.ensures c.lay.ensures c.start.ensures c.if-buf-lt32.false _ c.in-Bytes.is)
     (λ c. search laws)
     (λ c. search laws))
