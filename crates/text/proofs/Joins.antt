@@ -57,11 +57,11 @@ placed_moved k at n (Made c) = ap (F.Command c) (omega arith)
 placed_moved k at n NoLetter = refl
 placed_moved k at n (WrongOperand read) = ap (λ p. F.Refused (R.Operand p read)) (omega arith)
 
-then-moved : (k at : ℕ) (f : Found) (rest : Reading) → then_read (k + at) (moved_found k f) (moved_reading k rest) ≡ moved_reading k (then_read at f rest)
-then-moved k at (F.Command c next) (reads steps) = refl
-then-moved k at (F.Command c next) (wrong r) = refl
-then-moved k at (F.Refused r) rest = refl
-then-moved k at F.End rest = refl
+then_moved : (k at : ℕ) (f : Found) (rest : Reading) → then_read (k + at) (moved_found k f) (moved_reading k rest) ≡ moved_reading k (then_read at f rest)
+then_moved k at (F.Command c next) (reads steps) = refl
+then_moved k at (F.Command c next) (wrong r) = refl
+then_moved k at (F.Refused r) rest = refl
+then_moved k at F.End rest = refl
 
 read_moved : (k : ℕ) (x : Bool) (at : ℕ) (t : List ℕ) → read_from x (k + at) t ≡ moved_reading k (read_from x at t)
 unfolding read_from found_in
@@ -77,7 +77,7 @@ read_moved k x at (b ∷ t) =
         then_read (k + at) (moved_found k (found_in at (b ∷ t))) (moved_reading k (read_from true (at + 1) t))) ≡
         moved_reading k (if y then read_from true (at + 1) t else then_read at (found_in at (b ∷ t)) (read_from true (at + 1) t))
     go true = refl
-    go false = then-moved k at (found_in at (b ∷ t)) (read_from true (at + 1) t)
+    go false = then_moved k at (found_in at (b ∷ t)) (read_from true (at + 1) t)
 
 -- a text that reads begins with a letter, or is empty
 begins : (t : List ℕ) (steps : List Step) → read_of t ≡ reads steps → operand_text t ≡ []
@@ -100,12 +100,12 @@ fresh true at t e =
     let z : at + 0 ≡ at = omega arith in
     behind_operands at t ∙ rw (e, all, z)
 
-then-and : (at : ℕ) (f : Found) (a b : Reading) → then_read at f (and_read a b) ≡ and_read (then_read at f a) b
-then-and at (F.Command c next) (reads xs) (reads ys) = refl
-then-and at (F.Command c next) (reads xs) (wrong r) = refl
-then-and at (F.Command c next) (wrong r) b = refl
-then-and at (F.Refused r) a b = refl
-then-and at F.End a b = refl
+then_and : (at : ℕ) (f : Found) (a b : Reading) → then_read at f (and_read a b) ≡ and_read (then_read at f a) b
+then_and at (F.Command c next) (reads xs) (reads ys) = refl
+then_and at (F.Command c next) (reads xs) (wrong r) = refl
+then_and at (F.Command c next) (wrong r) b = refl
+then_and at (F.Refused r) a b = refl
+then_and at F.End a b = refl
 
 nothing_and : (b : Reading) → and_read (reads []) b ≡ b
 nothing_and (reads ys) = refl
@@ -129,7 +129,7 @@ read_joined x at (c ∷ a) b e =
         then_read at (found_in at (c ∷ a)) (and_read (read_from true (at + 1) a) (read_from false (at + 1 + length a) b))) ≡
         and_read (if y then read_from true (at + 1) a else then_read at (found_in at (c ∷ a)) (read_from true (at + 1) a)) (read_from false (at + 1 + length a) b)
     go true = refl
-    go false = then-and at (found_in at (c ∷ a)) (read_from true (at + 1) a) (read_from false (at + 1 + length a) b)
+    go false = then_and at (found_in at (c ∷ a)) (read_from true (at + 1) a) (read_from false (at + 1 + length a) b)
 
 -- loops are counted the same wherever a text stands
 levels_moved : (k : ℕ) (steps : List Step) (d : ℕ) → levels (moved k steps) d ≡ levels steps d

@@ -173,10 +173,10 @@ one_closing p q h k e (within l r) = absurd (omega arith)
 
 -- the one loop that a G closes
 pub record Partner (loops : List Loop) (k : ℕ) : Type 0 where
-  pub loop-of : Loop
-  pub there : Memᴰ loop-of loops
-  pub closes_here : loop-of.closing ≡ k
-  pub only : (other : Loop) → Memᴰ other loops → other.closing ≡ k → other ≡ loop-of
+  pub loop_of_lem : Loop
+  pub there : Memᴰ loop_of_lem loops
+  pub closes_here : loop_of_lem.closing ≡ k
+  pub only : (other : Loop) → Memᴰ other loops → other.closing ≡ k → other ≡ loop_of_lem
 
 module _ (t : List Step) (a : Accepted t) where
   abbrev pub loops_of : List Loop
@@ -189,7 +189,7 @@ module _ (t : List Step) (a : Accepted t) where
   each_G_has_one_partner k m =
       let c = ⊎_elim (λ (r : Closes loops_of k). r) (λ b. absurd (Memᴰ.not-nil b)) (closing_in 0 a.nest [] k a.proper (rw a.spelt m)) in
       record {
-        loop-of = c.partner;
+        loop_of_lem = c.partner;
         there = c.there;
         closes_here = c.at_it;
         only =

@@ -5,11 +5,11 @@ use Rattle.desk.proofs.Lines.{Along, line_begins, line_ends, at_lf, line_goes_on
 use Rattle.desk.proofs.line_end.Statement.{statement}
 use Rattle.desk.proofs.line_end.Tie as tie
 
-abbrev invariant-loop : tie.invariant-loop
-invariant-loop t from i₀ i = Along t from i
+abbrev invariant-loop-i : tie.invariant-loop-i
+invariant-loop-i t from i₀ i = Along t from i
 
-abbrev decreases-loop : tie.decreases-loop
-decreases-loop t from i₀ i = length t - i
+abbrev decreases-loop-i : tie.decreases-loop-i
+decreases-loop-i t from i₀ i = length t - i
 
 ruleset laws = (rules, line_begins, line_ends, at_lf, line_goes_on)
 
@@ -17,8 +17,8 @@ pub line_end_spec : {M : Type 1} → statement M
 line_end_spec =
     tie.close
     (tie.spec
-    invariant-loop
-    decreases-loop
+    invariant-loop-i
+    decreases-loop-i
     (λ c. search laws)
     (λ c. search laws)
     (λ c. search laws)

@@ -11,18 +11,13 @@ unfolding number_word
 number_word_spec =
     tie.close
     (tie.spec
+    (λ c κs. search laws)
     (λ c. search laws depth 12 fits 5000)
     (λ c κs. search laws)
     (λ c. search laws depth 12 fits 5000)
-    (λ c. search laws depth 12 fits 5000)
     (λ c κs. search laws)
     (λ c. search laws depth 12 fits 5000)
-    (λ c. search laws depth 12 fits 5000)
     (λ c κs. search laws)
-    (λ c. search laws depth 12 fits 5000)
-    (λ c. search laws depth 12 fits 5000)
-    (λ c κs. search laws)
-    (λ c. search laws depth 12 fits 5000)
     (λ c. search laws depth 12 fits 5000)
     (λ c κs. search laws)
     (λ c. search laws depth 12 fits 5000)

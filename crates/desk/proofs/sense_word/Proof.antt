@@ -11,12 +11,9 @@ unfolding sense_word
 sense_word_spec =
     tie.close
     (tie.spec
-    (λ c. search laws depth 12 fits 5000)
     (λ c κs. search laws)
     (λ c. search laws depth 12 fits 5000)
-    (λ c. search laws depth 12 fits 5000)
     (λ c κs. search laws)
-    (λ c. search laws depth 12 fits 5000)
     (λ c. search laws depth 12 fits 5000)
     (λ c κs. search laws)
     (λ c. search laws depth 12 fits 5000)

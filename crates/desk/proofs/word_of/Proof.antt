@@ -10,14 +10,11 @@ pub word_of_spec : {M : Type 1} → statement M
 unfolding word_of
 word_of_spec = tie.close
     (tie.spec
-    (λ c. search (told, untold) depth 12 fits 5000)
     (λ c κs. search laws)
-    (λ c. search (told, untold) depth 12 fits 5000)
-    (λ c. search (told, untold) depth 12 fits 5000)
+    (λ c. search laws depth 12 fits 5000)
     (λ c κs. search laws)
-    (λ c. search (told, untold) depth 12 fits 5000)
-    (λ c. search (told, untold) depth 12 fits 5000)
+    (λ c. search laws depth 12 fits 5000)
     (λ c κs. search laws)
-    (λ c. search (told, untold) depth 12 fits 5000)
+    (λ c. search laws depth 12 fits 5000)
     (λ c κs. search laws)
-    (λ c. search (told, untold) depth 12 fits 5000))
+    (λ c. search laws depth 12 fits 5000))

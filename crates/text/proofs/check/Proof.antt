@@ -43,11 +43,11 @@ module _ (s : List ℕ) (at : ℕ) (l : Left s at) where
       again : Left s next
       again = record { same = sym (over at c next (read_at s next)) ∙ (rw (read_command s at c next h (sym e ∙ q)) at l.same) }
 
-abbrev invariant-loop : tie.invariant-loop
-invariant-loop t at₀ at = Left t at
+abbrev invariant-loop-at : tie.invariant-loop-at
+invariant-loop-at t at₀ at = Left t at
 
-abbrev decreases-loop : tie.decreases-loop
-decreases-loop t at₀ at = length t - at
+abbrev decreases-loop-at : tie.decreases-loop-at
+decreases-loop-at t at₀ at = length t - at
 
 ruleset laws = (rules, start, end, refused, ended, read_less, again)
 
@@ -55,8 +55,8 @@ pub check_spec : {M : Type 1} → statement M
 check_spec =
     tie.close
     (tie.spec
-    invariant-loop
-    decreases-loop
+    invariant-loop-at
+    decreases-loop-at
     (λ c. search laws)
     (λ c κs. search laws)
     (λ c. search laws)

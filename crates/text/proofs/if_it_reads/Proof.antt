@@ -22,5 +22,5 @@ module _ (t : List ℕ) (run : Bool) (x : Checked) (e : x ≡ check_of t) where
 
 ruleset laws = (rules, fine, refused)
 
-pub if-it-reads-spec : {M : Type 1} → statement M
-if-it-reads-spec = tie.close (tie.spec (λ c κs. search laws) (λ c. search laws) (λ c. search laws) (λ c. search laws) (λ c. search laws))
+pub if_it_reads_spec : {M : Type 1} → statement M
+if_it_reads_spec = tie.close (tie.spec (λ c κs. search laws) (λ c. search laws) (λ c. search laws) (λ c. search laws) (λ c. search laws))

@@ -76,11 +76,11 @@ module _ (before now : List ℕ) (kept i : ℕ) (k : Kept before now kept i) whe
               long = rw (a, length-set) k.long;
             }
 
-abbrev invariant-loop : tie.invariant-loop
-invariant-loop t₀ kept₀ i₀ t kept i = Kept t₀ t kept i
+abbrev invariant-loop-i : tie.invariant-loop-i
+invariant-loop-i t₀ kept₀ i₀ t kept i = Kept t₀ t kept i
 
-abbrev decreases-loop : tie.decreases-loop
-decreases-loop t₀ kept₀ i₀ t kept i = length t₀ - i
+abbrev decreases-loop-i : tie.decreases-loop-i
+decreases-loop-i t₀ kept₀ i₀ t kept i = length t₀ - i
 
 ruleset laws = (rules, start, end, room, again)
 
@@ -88,8 +88,8 @@ pub squeeze_spec : {M : Type 1} → statement M
 squeeze_spec =
     tie.close
     (tie.spec
-    invariant-loop
-    decreases-loop
+    invariant-loop-i
+    decreases-loop-i
     (λ c. search laws)
     (λ c. search laws)
     (λ c κs. search laws)

@@ -51,11 +51,11 @@ module _ (s : List ℕ) (first at d : ℕ) (l : Left s first at d) where
         again : (n : ℕ) → v ≡ At n → Left s first next n
         again n z = record { same = rw (← w, z) at step }
 
-abbrev invariant-loop : tie.invariant-loop
-invariant-loop t «open» at₀ level₀ at level = Left t «open» at level
+abbrev invariant-loop-at : tie.invariant-loop-at
+invariant-loop-at t «open» at₀ level₀ at level = Left t «open» at level
 
-abbrev decreases-loop : tie.decreases-loop
-decreases-loop t «open» at₀ level₀ at level = length t - at
+abbrev decreases-loop-at : tie.decreases-loop-at
+decreases-loop-at t «open» at₀ level₀ at level = length t - at
 
 ruleset laws = (rules, start, end, refused, ended, read_less, broken, again)
 
@@ -63,8 +63,8 @@ pub level_behind_spec : {M : Type 1} → statement M
 level_behind_spec =
     tie.close
     (tie.spec
-    invariant-loop
-    decreases-loop
+    invariant-loop-at
+    decreases-loop-at
     (λ c. search laws)
     (λ c κs. search laws)
     (λ c. search laws)
