@@ -5,25 +5,13 @@ use Rattle.pipettor.proofs.lent.Parts.byte.Statement.{statement}
 use Rattle.pipettor.proofs.lent.Parts.byte.Tie as tie
 
 -- What lies behind a call that returns a record of many fields is named: `search` enters 128 of them.
-answers : tie.Need-returns-2
+answers : tie.Need-returns
 answers c =
-    let said = c.before.before in
-    let ready = said.before.before in
-    let framed = ready.before in
-    let told = framed.before in
-    let done = told.before.before in
-    let sized = done.before.before.before.before in
-    let asked = sized.before in
-    let got = asked.before in
-    let ours = got.before in
-    let kept = ours.before.before in
-    let came = kept.before.before in
-    let tested = came.before.before in
     record {
       is =
-          heard _ _ _ _ _ _ _ _ _ _ _ _ _ _ _ _ _ (search tested.if1.false) ours.letter.ensures came.hear.ensures kept.keep.ensures got.get.ensures
-          asked.task.ensures sized.size.ensures done.perform.ensures.is told.outcome.ensures (search ready.ready.ensures) framed.framing.ensures said.say.ensures;
-      again = record { core = done.perform.ensures.again };
+          heard _ _ _ _ _ _ _ _ _ _ _ _ _ _ _ _ _ (search c.if-buf-lt32.false) c.letter.ensures c.hear-heard.ensures c.keep.ensures c.get-got.ensures
+          c.task-task.ensures c.size-n.ensures c.perform-done.ensures.is c.outcome-outcome.ensures (search c.ready.ensures) c.framing.ensures c.say-said.ensures;
+      again = record { core = c.perform-done.ensures.again };
     }
 
 pub byte_spec : {M : Type 1} → statement M
@@ -37,7 +25,7 @@ byte_spec =
     (λ c κs. search rules)
     (λ c κs. search rules)
     (λ c κs. search rules)
-    (λ c κs. (c.before.before.before.before.before.before.before.before.before.before.before.before.before.before.requires, part_fits _ _ _ _ _ _ (search c.before.before.before.before.before.before.before.get-arg.given) c.before.before.before.before.before.get.ensures c.before.before.before.size.ensures))
+    (λ c κs. (c.requires, part_fits _ _ _ _ _ _ (search c.get-arg-1.given) c.get-got.ensures c.size-n.ensures))
     (λ c κs. tellable _ c.before.before.before.before.before.before.before.before.before.before.before.before.before.before.before.before.requires)
     (λ c κs. search rules)
     (λ c κs. search rules)
