@@ -21,4 +21,4 @@ pipettor_make_spec =
     (λ c κs. search laws)
     (λ c κs. search laws)
     (λ c κs. search laws)
-    (λ c. let c1 = c.before.before.before.before in let c2 = c1.before.before.before.before in let c3 = c2.before.before.before.before.before in let c4 = c3.before.before in let c5 = c4.before.before in let c6 = c5.before.before in let c7 = c6.before.before in search (is_made, c.put.ensures, c1.put-line.ensures, c2.address-number.ensures, c3.fresh.ensures, c4.a.given, c5.of.ensures, c6.framed.given, c7.framing-of.ensures)))
+    (λ c. search (is_made, c.put.ensures, c.put_line.ensures, c.address_number.ensures, c.fresh-made.ensures, c.in-Is-of.is, c.of.ensures, c.in-Is.is, c.framing_of.ensures)))

@@ -12,7 +12,7 @@ pipettor_stop_spec =
     (tie.spec
     (λ c κs. search laws)
     (λ c κs. search laws)
-    (λ c. let c1 = c.before in let c2 = c1.before.before.before in search (not-true, not_stopped, c.if1.true, c1.is-written.ensures, c2.pose-in.ensures))
+    (λ c. search (not-true, not_stopped, c.if-not-is_written.true, c.is_written.ensures, c.pose_in-pose.ensures))
     (λ c κs. search laws)
     (λ c κs. search laws)
-    (λ c. let c1 = c.before.before.before.before in let c2 = c1.before in let c3 = c2.before in let c4 = c3.before.before.before in search (not-false, is_stop, c.put.ensures, c1.stopped.ensures, c2.if1.false, c3.is-written.ensures, c4.pose-in.ensures)))
+    (λ c. search (not-false, is_stop, c.put.ensures, c.stopped-left.ensures, c.if-not-is_written.false, c.is_written.ensures, c.pose_in-pose.ensures)))

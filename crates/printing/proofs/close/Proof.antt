@@ -8,9 +8,7 @@ ruleset laws = (rules, all_silent, something_said)
 pub close_spec : {M : Type 1} → statement M
 close_spec = tie.close
     (tie.spec
-    (λ c. search laws)
     (λ c κs. search laws)
-    (λ c. search laws)
     (λ c. search laws)
     (λ c. search laws)
     (λ c κs. search laws)

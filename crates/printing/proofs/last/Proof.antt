@@ -8,9 +8,7 @@ ruleset laws = (rules, asked_last, unasked_last)
 pub last_spec : {M : Type 1} → statement M
 last_spec = tie.close
     (tie.spec
-    (λ c. search laws)
     (λ c κs. search laws)
-    (λ c. search laws)
     (λ c. search laws)
     (λ c. search laws)
     (λ c κs. search laws)

@@ -6,4 +6,8 @@ use Rattle.printing.proofs.line.Tie as tie
 ruleset laws = (rules, lined)
 
 pub line_spec : {M : Type 1} → statement M
-line_spec = tie.close (tie.spec (λ c κs. search laws) (λ c. search laws) (λ c κs. search laws) (λ c. search laws) (λ c. search laws))
+line_spec = tie.close (tie.spec
+    (λ c κs. search laws)
+    (λ c κs. search laws)
+    (λ c. search laws)
+    (λ c. search laws))

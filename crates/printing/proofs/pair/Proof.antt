@@ -14,7 +14,6 @@ pair_spec = tie.close
     (λ c κs. search laws)
     (λ c. search laws)
     (λ c. search laws)
-    (λ c. search laws)
     (λ c κs. search laws)
     (λ c. search laws)
     (λ c κs. search laws)

@@ -9,7 +9,6 @@ pub place_spec : {M : Type 1} → statement M
 place_spec = tie.close
     (tie.spec
     (λ c κs. search laws)
-    (λ c. search laws)
     (λ c κs. search laws)
     (λ c κs. search laws)
     (λ c κs. search laws)
