@@ -19,8 +19,4 @@ send_in_spec =
     (λ c κs. search laws)
     (λ c. search laws)
     (λ c. search laws)
-    (λ c.
-    let sent = c.before.before in
-    let summed = sent.before.before.before.before in
-    let wrapped = summed.before.before.before.before in
-    sends_it _ _ _ _ wrapped.before.before.before.before.before.requires.1.0 wrapped.wrap.ensures _ _ _ _ _ _ summed.sum.ensures sent.send.ensures))
+    (λ c. sends_it _ _ _ _ c.requires.1.0 c.wrap-n.ensures _ _ _ _ _ _ c.sum-last.ensures c.send.ensures))
