@@ -11,7 +11,7 @@ use Rattle.demands.specs.Calls.{Making, made, lent, Call, byte, listen, tick, st
 use Rattle.demands.specs.Promises.{Program, Made, makes, Meets, TakesAll, left_by, answered_by}
 use Rattle.demands.specs.Frames.{frame_after}
 use Rattle.demands.specs.Demands.{Agrees, Agreement}
-use Rattle.demands.specs.Script.{Line, ◌answers◌, ◌ticks◌exact◌, ◌run-uses◌, ◌ticks-with◌ask◌, ◌ticks-at◌reach◌exact◌, last_of, bench, definition, program, calls_of, seen, wrong_in, wrong_of, TakesScript, TakesScripts}
+use Rattle.demands.specs.Script.{Line, ◌answers◌, ◌ticks◌exact◌, ◌run_uses◌, ◌ticks_with◌ask◌, ◌ticks_at◌reach◌exact◌, last_of, bench, definition, program, calls_of, seen, wrong_in, wrong_of, TakesScript, TakesScripts}
 use Rattle.demands.proofs.Examples.{impostors, computed}
 use Rattle.demands.proofs.Frames.{a_controller_hears}
 use Rattle.demands.proofs.Exchanges.{the_framing_stays, an_agreeing_program_exchanges}
@@ -80,11 +80,11 @@ module _ (p : Program) (m : Meets p) where
 
   seen_alike : (calls : List Call) (l : Line) → TakesAll p (calls ++ calls_of l) → seen (program p) calls l ≡ seen definition calls l
   unfolding seen
-  seen_alike calls (text answers reply) t = ap last_of (every_program_agrees p m bench (calls ++ calls_of (text answers reply)) t).answered
+  seen_alike calls (◌answers◌ text reply) t = ap last_of (every_program_agrees p m bench (calls ++ calls_of (◌answers◌ text reply)) t).answered
   seen_alike calls (n ticks place exact millionths) t = placed_alike (calls ++ advance n nothing_sensed ∷ []) t
-  seen_alike calls (n run-uses count) t = ap last_of (every_program_agrees p m bench (calls ++ run n nothing_sensed ∷ []) t).answered
-  seen_alike calls (n ticks-with tip ask asked) t = ap last_of (every_program_agrees p m bench (calls ++ advance n (sensing tip (pos 0)) ∷ []) t).answered
-  seen_alike calls (n ticks-at reading reach there exact millionths) t = placed_alike (calls ++ advance n (sensing false reading) ∷ []) t
+  seen_alike calls (n run_uses count) t = ap last_of (every_program_agrees p m bench (calls ++ run n nothing_sensed ∷ []) t).answered
+  seen_alike calls (n ticks_with tip ask asked) t = ap last_of (every_program_agrees p m bench (calls ++ advance n (sensing tip (pos 0)) ∷ []) t).answered
+  seen_alike calls (n ticks_at reading reach there exact millionths) t = placed_alike (calls ++ advance n (sensing false reading) ∷ []) t
 
   wrong_alike : (calls : List Call) (ls : List Line) → TakesScript p calls ls → wrong_in (program p) calls ls ≡ wrong_in definition calls ls
   unfolding wrong_in

@@ -1,10 +1,11 @@
--- `specs/Contracts` says what the contracts say: each is the one that the compiler reads from `pipettor/src/lib.rt`, of a method's arguments, its result and what is left of what was lent.
+-- `specs/Promises` says what the contracts say: each is the one that the compiler reads from `pipettor/src/lib.rt`, of a method's arguments, its result and what is left of what was lent.
 use mathlib.Core.Path.{◌≡◌, refl}
 use mathlib.Core.Bool.{Bool}
 use mathlib.Core.List.{List}
 use Prim.Native.Nat.{ℕ}
 use contract.Lifetimes.{Lfts}
 use denote.Ref.{Bor}
+use denote.MutBor.{MutBor}
 use Rattle.line.specs.declared.Framing.{Framing}
 use Rattle.motion.specs.declared.Sense.{Sense}
 use Rattle.pipettor.specs.declared.address.Address.{Address}
@@ -67,7 +68,7 @@ module _ (κs : Lfts 0) where
 
 -- the buffer as it was lent, and as it is left
 pub byte_says :
-    (κs : Lfts 1) (k : Controller) (b : ℕ) (lent left : Bor (List ℕ)) (r : Reply) →
+    (κs : Lfts 1) (k : Controller) (b : ℕ) (lent left : MutBor (List ℕ)) (r : Reply) →
     Says (Byte.Asked κs (k, (b, (lent, tt)))) (Valid k) (Byte.Learnt κs (k, (b, (lent, tt))) r (k, (b, (left, tt)))) (ByteEnsures k b (record { buffer = lent.now }) r (record { buffer = left.now }))
 byte_says κs k b lent left r = record { asked_is = refl; ensured_is = refl }
 

@@ -39,7 +39,7 @@ use Rattle.demands.specs.Calls as Calls
 use Rattle.demands.specs.Calls.{Call, advance, after}
 use Rattle.demands.specs.Demands.{Moves}
 use Rattle.demands.specs.Oem.{OemExamples}
-use Rattle.demands.specs.Script.{Line, ◌answers◌, ◌ticks◌exact◌, ◌run-uses◌, ◌ticks-with◌ask◌, ◌ticks-at◌reach◌exact◌, bench, definition, calls_of, seen, wrong_in, wrong_of}
+use Rattle.demands.specs.Script.{Line, ◌answers◌, ◌ticks◌exact◌, ◌run_uses◌, ◌ticks_with◌ask◌, ◌ticks_at◌reach◌exact◌, bench, definition, calls_of, seen, wrong_in, wrong_of}
 
 abbrev pub examples : List (List Line)
 examples =
@@ -88,36 +88,36 @@ examples =
     -- 02, W-213: "3 in the loop check"; what was stored stays
     ∷ ("WA5" answers "`" ∷ "G3R" answers "c" ∷ "?67" answers "c1" ∷ "R" answers "@" ∷ 3 ticks 5 exact 5000000 ∷ [])
     -- 02, W-203, "Tips": E0 with a tip asks, and ends in the next tick without one; a tip still there is 8; without one E0 is 10
-    ∷ ("ER" answers "@" ∷ 1 ticks-with true ask true ∷ "?31" answers "@1" ∷ "X" answers "O" ∷ 1 ticks-with false ask false ∷ "Q" answers "o" ∷ "?31" answers "o0" ∷ [])
-    ∷ ("EM100R" answers "@" ∷ 1 ticks-with true ask true ∷ 1 ticks-with true ask false ∷ "Q" answers "h" ∷ "?67" answers "h0" ∷ "?31" answers "h1" ∷ [])
-    ∷ ("E0R" answers "@" ∷ 1 ticks-with false ask false ∷ "Q" answers "j" ∷ "E,1R" answers "c" ∷ "E2" answers "c" ∷ [])
+    ∷ ("ER" answers "@" ∷ 1 ticks_with true ask true ∷ "?31" answers "@1" ∷ "X" answers "O" ∷ 1 ticks_with false ask false ∷ "Q" answers "o" ∷ "?31" answers "o0" ∷ [])
+    ∷ ("EM100R" answers "@" ∷ 1 ticks_with true ask true ∷ 1 ticks_with true ask false ∷ "Q" answers "h" ∷ "?67" answers "h0" ∷ "?31" answers "h1" ∷ [])
+    ∷ ("E0R" answers "@" ∷ 1 ticks_with false ask false ∷ "Q" answers "j" ∷ "E,1R" answers "c" ∷ "E2" answers "c" ∷ [])
     -- E1 asks for no tip, but for W; "T between them leaves it unjudged"
-    ∷ ("E1R" answers "@" ∷ 1 ticks-with true ask false ∷ "Q" answers "g" ∷ "WE1A5R" answers "@" ∷ 2 ticks-with true ask true ∷ "T" answers "`" ∷ "R" answers "@" ∷ 2 ticks-with true ask false ∷ "?1" answers "`5" ∷ "!R" answers "`" ∷ "?31" answers "`1" ∷ [])
+    ∷ ("E1R" answers "@" ∷ 1 ticks_with true ask false ∷ "Q" answers "g" ∷ "WE1A5R" answers "@" ∷ 2 ticks_with true ask true ∷ "T" answers "`" ∷ "R" answers "@" ∷ 2 ticks_with true ask false ∷ "?1" answers "`5" ∷ "!R" answers "`" ∷ "?31" answers "`1" ∷ [])
     -- a run and many ticks say whether any of them asked
-    ∷ ("WA100E1A0R" answers "@" ∷ 60 ticks-with false ask true ∷ "Q" answers "`" ∷ "X" answers "@" ∷ 2 ticks-with false ask false ∷ [])
+    ∷ ("WA100E1A0R" answers "@" ∷ 60 ticks_with false ask true ∷ "Q" answers "`" ∷ "X" answers "@" ∷ 2 ticks_with false ask false ∷ [])
     -- 02, W-206, "Liquid level detection": p0 to p6 are set, reported and reset
     ∷ ("p0,20p1,30p2,3000p3,200p4,1000p5,1p6,5R" answers "@" ∷ 7 ticks 0 exact 0 ∷ "?32" answers "`20" ∷ "?33" answers "`30" ∷ "?34" answers "`3000" ∷ "?35" answers "`200.0" ∷ "?36" answers "`1000" ∷ "?37" answers "`1" ∷ "?38" answers "`5" ∷ "!R" answers "`" ∷ "?32" answers "`15" ∷ "?33" answers "`5" ∷ "?34" answers "`0" ∷ "?35" answers "`150.0" ∷ "?36" answers "`44000" ∷ "?37" answers "`0" ∷ "?38" answers "`20" ∷ [])
     -- ten times the count at p1 is a find, just below it is none; the zero is the reading of the tick that takes B; B ends as any command ends
-    ∷ ("Wp1,30B1P2R" answers "@" ∷ 3 ticks-at pos 5 reach 0 exact 0 ∷ 2 ticks-at pos 21 reach 3 exact 0 ∷ "Q" answers "@" ∷ 1 ticks-at pos 21 reach 4 exact 4000000 ∷ 2 ticks 6 exact 6000000 ∷ "Q" answers "`" ∷ [])
+    ∷ ("Wp1,30B1P2R" answers "@" ∷ 3 ticks_at pos 5 reach 0 exact 0 ∷ 2 ticks_at pos 21 reach 3 exact 0 ∷ "Q" answers "@" ∷ 1 ticks_at pos 21 reach 4 exact 4000000 ∷ 2 ticks 6 exact 6000000 ∷ "Q" answers "`" ∷ [])
     -- "further than p0": 15 away is not; "any other sets the count to 0"
-    ∷ ("Wp1,30B1R" answers "@" ∷ 3 ticks-at pos 5 reach 0 exact 0 ∷ 2 ticks-at pos 20 reach 3 exact 0 ∷ 2 ticks-at negsuc 10 reach 6 exact 0 ∷ 1 ticks-at pos 5 reach 7 exact 0 ∷ 2 ticks-at negsuc 10 reach 10 exact 0 ∷ "Q" answers "@" ∷ 1 ticks-at negsuc 10 reach 12 exact 12000000 ∷ "Q" answers "`" ∷ [])
+    ∷ ("Wp1,30B1R" answers "@" ∷ 3 ticks_at pos 5 reach 0 exact 0 ∷ 2 ticks_at pos 20 reach 3 exact 0 ∷ 2 ticks_at negsuc 10 reach 6 exact 0 ∷ 1 ticks_at pos 5 reach 7 exact 0 ∷ 2 ticks_at negsuc 10 reach 10 exact 0 ∷ "Q" answers "@" ∷ 1 ticks_at negsuc 10 reach 12 exact 12000000 ∷ "Q" answers "`" ∷ [])
     -- found and p4 in one tick is a find; without one it is 6
-    ∷ ("Wp4,500p3,1000p1,10B1R" answers "@" ∷ 54 ticks-at pos 0 reach 490 exact 0 ∷ 1 ticks-at pos 16 reach 500 exact 500000000 ∷ "Q" answers "`" ∷ [])
-    ∷ ("Wp4,500p3,1000p1,10B1R" answers "@" ∷ 54 ticks-at pos 0 reach 490 exact 0 ∷ 1 ticks-at pos 15 reach 500 exact 500000000 ∷ "Q" answers "f" ∷ "?67" answers "f0" ∷ [])
+    ∷ ("Wp4,500p3,1000p1,10B1R" answers "@" ∷ 54 ticks_at pos 0 reach 490 exact 0 ∷ 1 ticks_at pos 16 reach 500 exact 500000000 ∷ "Q" answers "`" ∷ [])
+    ∷ ("Wp4,500p3,1000p1,10B1R" answers "@" ∷ 54 ticks_at pos 0 reach 490 exact 0 ∷ 1 ticks_at pos 15 reach 500 exact 500000000 ∷ "Q" answers "f" ∷ "?67" answers "f0" ∷ [])
     -- no way to go: judged in the first tick, found or 6
-    ∷ ("Wp5,1p2,1B1R" answers "@" ∷ 4 ticks-at pos 0 reach 0 exact 0 ∷ "Q" answers "@" ∷ 1 ticks-at pos 0 reach 0 exact 0 ∷ "Q" answers "f" ∷ "B1R" answers "@" ∷ 1 ticks-at pos 0 reach 0 exact 0 ∷ 1 ticks-at negsuc 15 reach 0 exact 0 ∷ "Q" answers "`" ∷ [])
+    ∷ ("Wp5,1p2,1B1R" answers "@" ∷ 4 ticks_at pos 0 reach 0 exact 0 ∷ "Q" answers "@" ∷ 1 ticks_at pos 0 reach 0 exact 0 ∷ "Q" answers "f" ∷ "B1R" answers "@" ∷ 1 ticks_at pos 0 reach 0 exact 0 ∷ 1 ticks_at negsuc 15 reach 0 exact 0 ∷ "Q" answers "`" ∷ [])
     -- "or the end of travel": ten increments are left
-    ∷ ("WV80000A43990B1R" answers "@" ∷ 59 ticks 43990 exact 43990000000 ∷ 6 ticks-at pos 0 reach 43999 exact 43990000000 ∷ "Q" answers "@" ∷ 1 ticks-at pos 0 reach 44000 exact 44000000000 ∷ "Q" answers "f" ∷ [])
+    ∷ ("WV80000A43990B1R" answers "@" ∷ 59 ticks 43990 exact 43990000000 ∷ 6 ticks_at pos 0 reach 43999 exact 43990000000 ∷ "Q" answers "@" ∷ 1 ticks_at pos 0 reach 44000 exact 44000000000 ∷ "Q" answers "f" ∷ [])
     -- "or dispenses (1)"
-    ∷ ("Wp5,1p2,100BR" answers "@" ∷ 6 ticks-at pos 0 reach 100 exact 100000000 ∷ 3 ticks-at pos 0 reach 96 exact 100000000 ∷ 1 ticks-at pos 16 reach 94 exact 94000000 ∷ "Q" answers "`" ∷ [])
+    ∷ ("Wp5,1p2,100BR" answers "@" ∷ 6 ticks_at pos 0 reach 100 exact 100000000 ∷ 3 ticks_at pos 0 reach 96 exact 100000000 ∷ 1 ticks_at pos 16 reach 94 exact 94000000 ∷ "Q" answers "`" ∷ [])
     -- "in this order, 7 uninitialised, 3 for p5 of 1 with p2 of 0, 5 for a reading outside -32767 to 32767"
-    ∷ ("p5,1BR" answers "@" ∷ 2 ticks-at pos 32768 reach 0 exact 0 ∷ "Q" answers "g" ∷ "Wp5,1B1R" answers "@" ∷ 3 ticks-at pos 32768 reach 0 exact 0 ∷ "Q" answers "c" ∷ "p5B1R" answers "@" ∷ 2 ticks-at pos 32768 reach 0 exact 0 ∷ "Q" answers "e" ∷ "B1R" answers "@" ∷ 1 ticks-at negsuc 32766 reach 0 exact 0 ∷ 1 ticks-at negsuc 32767 reach 1 exact 1000000 ∷ "Q" answers "e" ∷ [])
+    ∷ ("p5,1BR" answers "@" ∷ 2 ticks_at pos 32768 reach 0 exact 0 ∷ "Q" answers "g" ∷ "Wp5,1B1R" answers "@" ∷ 3 ticks_at pos 32768 reach 0 exact 0 ∷ "Q" answers "c" ∷ "p5B1R" answers "@" ∷ 2 ticks_at pos 32768 reach 0 exact 0 ∷ "Q" answers "e" ∷ "B1R" answers "@" ∷ 1 ticks_at negsuc 32766 reach 0 exact 0 ∷ 1 ticks_at negsuc 32767 reach 1 exact 1000000 ∷ "Q" answers "e" ∷ [])
     -- "B0 first moves to p2 at V": the exact position is p2, and a 5 there starts it at the plunger
-    ∷ ("Wp2,3000BR" answers "@" ∷ 3 ticks-at pos 32767 reach 0 exact 3000000000 ∷ "?0" answers "@3000" ∷ 1 ticks-at negsuc 32766 reach 80 exact 3000000000 ∷ 1 ticks-at negsuc 32767 reach 160 exact 160000000 ∷ "Q" answers "e" ∷ "?67" answers "e0" ∷ [])
+    ∷ ("Wp2,3000BR" answers "@" ∷ 3 ticks_at pos 32767 reach 0 exact 3000000000 ∷ "?0" answers "@3000" ∷ 1 ticks_at negsuc 32766 reach 80 exact 3000000000 ∷ 1 ticks_at negsuc 32767 reach 160 exact 160000000 ∷ "Q" answers "e" ∷ "?67" answers "e0" ∷ [])
     -- the search begins in the tick after the one in which the move arrives; ?0 is then the plunger; "T cuts a search like any movement"
-    ∷ ("Wp2,100BP100R" answers "@" ∷ 5 ticks-at pos 0 reach 100 exact 100000000 ∷ "?0" answers "@100" ∷ 3 ticks-at pos 0 reach 104 exact 100000000 ∷ "?0" answers "@104" ∷ "P1R" answers "O" ∷ "T" answers "`" ∷ "?1" answers "`104" ∷ "R" answers "@" ∷ 3 ticks 204 exact 204000000 ∷ [])
+    ∷ ("Wp2,100BP100R" answers "@" ∷ 5 ticks_at pos 0 reach 100 exact 100000000 ∷ "?0" answers "@100" ∷ 3 ticks_at pos 0 reach 104 exact 100000000 ∷ "?0" answers "@104" ∷ "P1R" answers "O" ∷ "T" answers "`" ∷ "?1" answers "`104" ∷ "R" answers "@" ∷ 3 ticks 204 exact 204000000 ∷ [])
     -- W-205 doesn't ask of B: with v above V it moves and searches, and the A behind it is refused
-    ∷ ("Wv200V100p2,10BA0R" answers "@" ∷ 5 ticks-at pos 0 reach 0 exact 10000000 ∷ 10 ticks-at pos 0 reach 10 exact 10000000 ∷ 1 ticks-at pos 16 reach 11 exact 11000000 ∷ "Q" answers "@" ∷ 1 ticks 11 exact 11000000 ∷ "Q" answers "c" ∷ [])
+    ∷ ("Wv200V100p2,10BA0R" answers "@" ∷ 5 ticks_at pos 0 reach 0 exact 10000000 ∷ 10 ticks_at pos 0 reach 10 exact 10000000 ∷ 1 ticks_at pos 16 reach 11 exact 11000000 ∷ "Q" answers "@" ∷ 1 ticks 11 exact 11000000 ∷ "Q" answers "c" ∷ [])
     ∷ []
 
 -- 01, "Errors a class makes, and so may a program"
@@ -143,7 +143,7 @@ impostors =
     -- "one answering always 60h"
     ∷ ("A1000R" answers "@" ∷ [])
     -- "one whose ticks move nothing", "one that runs only a text's first command", "and a run reporting an invented tick count"
-    ∷ ("WA5A10R" answers "@" ∷ 3 ticks 5 exact 5000000 ∷ 100 run-uses 2 ∷ 1 ticks 10 exact 10000000 ∷ 100 run-uses 0 ∷ [])
+    ∷ ("WA5A10R" answers "@" ∷ 3 ticks 5 exact 5000000 ∷ 100 run_uses 2 ∷ 1 ticks 10 exact 10000000 ∷ 100 run_uses 0 ∷ [])
     ∷ []
 
 -- W, b, A, P, D, T in a delay, a movement that is cut, and a reset

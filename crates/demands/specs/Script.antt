@@ -17,21 +17,21 @@ use Rattle.demands.specs.Promises.{Program, TakesAll, left_by, answered_by}
 
 -- a frame to address 1 and what it answers, status byte and data; so many ticks, and where the plunger and the exact position then are;
 -- a run of at most so many ticks, and how many it says it used; so many ticks with a tip or without one, and whether they ask the host to eject; so many ticks at a reading of the pressure, with the places again
-infix 68 ◌answers◌ ◌ticks◌exact◌ ◌run-uses◌ ◌ticks-with◌ask◌ ◌ticks-at◌reach◌exact◌
+infix 68 ◌answers◌ ◌ticks◌exact◌ ◌run_uses◌ ◌ticks_with◌ask◌ ◌ticks_at◌reach◌exact◌
 pub data Line : Type 0 where
   ◌answers◌ : String → String → Line
   ◌ticks◌exact◌ : ℕ → ℕ → ℕ → Line
-  ◌run-uses◌ : ℕ → ℕ → Line
-  ◌ticks-with◌ask◌ : ℕ → Bool → Bool → Line
-  ◌ticks-at◌reach◌exact◌ : ℕ → ℤ → ℕ → ℕ → Line
+  ◌run_uses◌ : ℕ → ℕ → Line
+  ◌ticks_with◌ask◌ : ℕ → Bool → Bool → Line
+  ◌ticks_at◌reach◌exact◌ : ℕ → ℤ → ℕ → ℕ → Line
 
 -- its calls: byte after byte, each with a buffer of 32 bytes lent; ticks; a run
 abbrev pub calls_of : Line → List Call
 calls_of (text answers reply) = map (λ (b : ℕ). byte b (lent (replicate 32 0))) (framed dt 49 (chars text))
 calls_of (n ticks place exact millionths) = advance n nothing_sensed ∷ []
-calls_of (n run-uses count) = run n nothing_sensed ∷ []
-calls_of (n ticks-with tip ask asked) = advance n (sensing tip (pos 0)) ∷ []
-calls_of (n ticks-at reading reach there exact millionths) = advance n (sensing false reading) ∷ []
+calls_of (n run_uses count) = run n nothing_sensed ∷ []
+calls_of (n ticks_with tip ask asked) = advance n (sensing tip (pos 0)) ∷ []
+calls_of (n ticks_at reading reach there exact millionths) = advance n (sensing false reading) ∷ []
 
 -- status byte and data of an answer: without `/`, `0` in front and 03h, CR, LF behind
 abbrev pub data_in : Said → List ℕ → List ℕ
@@ -74,16 +74,16 @@ program p = record { left = λ calls. left_by p calls (p.fresh bench); back = λ
 unfoldable pub seen : Player → List Call → Line → List ℕ
 seen player calls (text answers reply) = last_of (player.back (calls ++ calls_of (text answers reply)))
 seen player calls (n ticks place exact millionths) = let b = (player.left (calls ++ advance n nothing_sensed ∷ [])).device.core.body in b.plunger ∷ b.exact ∷ []
-seen player calls (n run-uses count) = last_of (player.back (calls ++ run n nothing_sensed ∷ []))
-seen player calls (n ticks-with tip ask asked) = last_of (player.back (calls ++ advance n (sensing tip (pos 0)) ∷ []))
-seen player calls (n ticks-at reading reach there exact millionths) = let b = (player.left (calls ++ advance n (sensing false reading) ∷ [])).device.core.body in b.plunger ∷ b.exact ∷ []
+seen player calls (n run_uses count) = last_of (player.back (calls ++ run n nothing_sensed ∷ []))
+seen player calls (n ticks_with tip ask asked) = last_of (player.back (calls ++ advance n (sensing tip (pos 0)) ∷ []))
+seen player calls (n ticks_at reading reach there exact millionths) = let b = (player.left (calls ++ advance n (sensing false reading) ∷ [])).device.core.body in b.plunger ∷ b.exact ∷ []
 
 abbrev pub expected : Line → List ℕ
 expected (text answers reply) = chars reply
 expected (n ticks place exact millionths) = place ∷ millionths ∷ []
-expected (n run-uses count) = count ∷ []
-expected (n ticks-with tip ask asked) = flag asked ∷ []
-expected (n ticks-at reading reach there exact millionths) = there ∷ millionths ∷ []
+expected (n run_uses count) = count ∷ []
+expected (n ticks_with tip ask asked) = flag asked ∷ []
+expected (n ticks_at reading reach there exact millionths) = there ∷ millionths ∷ []
 
 abbrev pub same : List ℕ → List ℕ → Bool
 same [] [] = true
