@@ -1,7 +1,6 @@
 -- Worked examples, computed.
 use mathlib.Core.Path.{◌≡◌, refl}
-use mathlib.Core.List.{List, [], ◌∷◌}
-use Prim.Native.Nat.{ℕ}
+use mathlib.Core.List.{[], ◌∷◌}
 use Rattle.decimal.specs.Digits.{last_digits, trim, digits_of, long_of, fixed_of}
 
 -- `0` and the largest number of 32 bits

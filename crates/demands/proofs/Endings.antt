@@ -2,7 +2,7 @@
 use mathlib.Core.Path.{◌≡◌, refl, sym, ap, subst, ◌∙◌}
 use mathlib.Core.Bool.{true, false, false≢true, ◌&&◌, not}
 use mathlib.Core.List.{List, [], ◌∷◌, ◌++◌, append_assoc, append-nil}
-use Prim.Native.Nat.{ℕ, ◌+◌}
+use Prim.Native.Nat.{ℕ}
 use native.Mathlib.Omega.{arith}
 use borrow.Author.Tests.{eqb-true, eq-eqb, ne_eqb, not-true}
 use lib.Dec.{eqb}
@@ -12,14 +12,13 @@ use Rattle.basics.proofs.Choice.{by}
 use Rattle.basics.proofs.Digits.{and_both, every_append}
 use Rattle.line.specs.declared.Framing.{Framing}
 use Rattle.line.specs.declared.Framing.TheVariants as F
-use Rattle.line.specs.declared.Line.TheVariants.{Dt, Oem}
 use Rattle.line.specs.Bytes.{printable}
 use Rattle.line.specs.Dt.{slash, cr}
 use Rattle.line.specs.Oem.{stx, etx, sequenced}
 use Rattle.line.specs.Wire.{Form, dt, oem, formed, data_byte, front, last_byte, Sendable}
-use Rattle.line.proofs.Receiving.{no_low, at}
+use Rattle.line.proofs.Receiving.{no_low}
 use Rattle.line.proofs.Framed.{no_stx, a_sequence_is_printable}
-use Rattle.demands.specs.Calls.{Call, byte, after}
+use Rattle.demands.specs.Calls.{Call}
 use Rattle.demands.specs.InHand.{DtHand, none, begun, to, longer, dt_of, OemHand, idle, started, addressed, collecting, closed, headed, oem_of, Hand, dt_hand, oem_hand, empty_hand, hand_of, hands_of, frame, ended_by, ends, brought, in_hand, awaits_sum, EndIn}
 use Rattle.demands.proofs.Holding.{hands_append, chosen}
 

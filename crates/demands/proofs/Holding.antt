@@ -28,7 +28,7 @@ use Rattle.line.specs.Dt as Dt
 use Rattle.line.specs.Dt.{slash, cr}
 use Rattle.line.specs.Oem as Oem
 use Rattle.line.specs.Oem.{stx, etx, sequenced, head_of, with_byte}
-use Rattle.line.specs.Wire.{fresh_line, hear_of, keep_of, is_whole, Received, hears, feed, before_frame, dt, oem}
+use Rattle.line.specs.Wire.{fresh_line, hear_of, keep_of, is_whole, Received, hears, feed, before_frame}
 use Rattle.line.proofs.Lines.{sum_append}
 use Rattle.line.proofs.Receiving.{less, feed_long, at}
 use Rattle.line.proofs.Framed.{summed, ended, sum_is}

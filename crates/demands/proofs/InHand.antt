@@ -1,9 +1,8 @@
 -- Theorems: a byte that ends a frame to us does what that frame does, and every other byte nothing.
 use mathlib.Core.Path.{◌≡◌, refl, sym, ap, subst, ◌∙◌}
 use mathlib.Core.List.{List, [], ◌∷◌, ◌++◌, append_assoc, append-nil}
-use Prim.Native.Nat.{ℕ, ◌+◌, ◌≤◌}
+use Prim.Native.Nat.{ℕ, ◌≤◌}
 use lib.ListN.{length}
-use Rattle.basics.specs.Bytes.{every}
 use Rattle.line.specs.declared.Framing.{Framing}
 use Rattle.line.specs.Wire.{hear_of}
 use Rattle.pipettor.specs.declared.address.Address.{Address}
@@ -18,7 +17,7 @@ use Rattle.frames.proofs.Frames as Frames
 use Rattle.demands.specs.Calls.{Making, made, lent, Call, byte, call_of, answer_of, after_of, events_of, answers_of, after, history, answers}
 use Rattle.demands.specs.Promises.{Program, TakesAll}
 use Rattle.demands.specs.Demands.{Agrees}
-use Rattle.demands.specs.InHand.{to, Hand, Ending, frame, ended_by, ends, in_hand, byte_seen, unheeded, EndsFrame, EndsNone, Receives, one_byte, HandsBack, ReceivesBy}
+use Rattle.demands.specs.InHand.{Hand, Ending, frame, ended_by, in_hand, byte_seen, unheeded, EndsFrame, EndsNone, Receives, one_byte, HandsBack, ReceivesBy}
 use Rattle.demands.proofs.Frames.{an_exchange_is_treated_by_the_table}
 use Rattle.demands.proofs.Exchanges.{after_two, answers_two, events_two, the_address_stays, the_framing_stays}
 use Rattle.demands.proofs.Holding.{Kept, Deeds, In, other, told, the_receiver_holds_what_is_in_hand}

@@ -25,7 +25,6 @@ use Rattle.desk.specs.Desk.{tail_size, printed_of}
 use Rattle.desk.specs.Hex.{digit_for, spaced, hex_of}
 use Rattle.text.specs.declared.Question.{Question}
 use Rattle.text.specs.declared.Question.TheVariants as Q
-use Rattle.text.specs.declared.Control.{Control}
 use Rattle.text.specs.declared.Data.TheVariants as D
 use Rattle.settings.specs.declared.Detection.{Detection}
 use Rattle.settings.specs.declared.Settings.{Settings}

@@ -10,7 +10,6 @@ use borrow.Author.Tests.{leb-true, eq-eqb, ne_eqb}
 use lib.Dec.{leb, eqb}
 use lib.ListN.{length, get_or, drop, length-drop, drop_of_length-le}
 use lib.Seq.{get_or-drop, drop-drop}
-use Rattle.basics.specs.Choice.{if◌then◌else◌}
 use Rattle.basics.specs.Bytes.{digit}
 use Rattle.basics.proofs.Rules.{tests}
 use Rattle.basics.proofs.Lists.{drop_step}

@@ -5,7 +5,6 @@ use mathlib.Core.List.{List, [], ◌∷◌}
 use Prim.Native.Nat.{ℕ, ◌*◌}
 use Rattle.basics.specs.Lay.{over}
 use Rattle.settings.specs.Limits.{usual_settings}
-use Rattle.text.specs.declared.Control.{Control}
 use Rattle.text.specs.declared.Control.TheVariants.{Run, Stop, Again, Clear, Reset}
 use Rattle.text.specs.declared.Data.{Data}
 use Rattle.text.specs.declared.Data.TheVariants as D

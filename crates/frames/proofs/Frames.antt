@@ -31,7 +31,7 @@ use Rattle.pipettor.specs.declared.Controller.{Controller}
 use Rattle.pipettor.specs.declared.Said.{Said}
 use Rattle.pipettor.specs.declared.Said.TheVariants.{Silent}
 use Rattle.pipettor.specs.Address.{letter_of}
-use Rattle.pipettor.specs.Byte.{After, reply, fetched_of, squeezed_in, got_of, squeezed_of, size_of, Exchange, byte_of}
+use Rattle.pipettor.specs.Byte.{After, fetched_of, squeezed_in, got_of, squeezed_of, size_of, Exchange, byte_of}
 use Rattle.frames.specs.Frame.{added_of, exchange_of, given_of, ToUs, Unheeded, Others}
 use Rattle.frames.proofs.Bytes.{receiver, hearing, given_last, byte_does, byte_frame, given_others}
 

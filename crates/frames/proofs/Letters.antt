@@ -2,7 +2,7 @@
 use mathlib.Core.Path.{◌≡◌, refl, ap, ◌∙◌}
 use mathlib.Core.Bool.{Bool, true, false, ◌||◌}
 use mathlib.Core.List.{List, [], ◌∷◌, ◌++◌}
-use Prim.Native.Nat.{ℕ, ◌+◌}
+use Prim.Native.Nat.{ℕ}
 use borrow.Author.Tests.{ne_eqb}
 use lib.Dec.{eqb}
 use Rattle.basics.specs.Bytes.{every}
@@ -10,7 +10,6 @@ use Rattle.basics.proofs.Digits.{and_both}
 use Rattle.operand.specs.declared.Class.TheVariants.{Operand}
 use Rattle.operand.specs.Text.{has}
 use Rattle.command.specs.declared.refusal.Misread.TheVariants as M
-use Rattle.command.specs.declared.Letter.{Letter}
 use Rattle.command.specs.declared.Letter.TheVariants as L
 use Rattle.command.specs.Command.{placed, found_in}
 use Rattle.command.specs.Table.{letter_of, command_of}

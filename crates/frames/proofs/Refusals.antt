@@ -14,8 +14,6 @@ use Rattle.command.specs.declared.refusal.Misread.{Misread}
 use Rattle.command.specs.declared.refusal.Misread.TheVariants.{Letter, Operand}
 use Rattle.command.specs.Numbers.{refusal_number}
 use Rattle.command.proofs.Numbers.{zero_is_fine, another_has_a_reason}
-use Rattle.text.specs.declared.Control.{Control}
-use Rattle.text.specs.declared.Control.TheVariants.{Run, Stop, Again, Clear, Reset}
 use Rattle.text.specs.declared.Data.{Data}
 use Rattle.text.specs.declared.Data.TheVariants as D
 use Rattle.text.specs.Data.{received_of}

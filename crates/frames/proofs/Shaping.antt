@@ -25,7 +25,6 @@ use Rattle.level.specs.declared.Search.{Search}
 use Rattle.level.specs.declared.Sought.{Sought}
 use Rattle.level.specs.declared.Finding.{Finding}
 use Rattle.level.specs.declared.Finding.TheVariants.{TooMuch, Missed}
-use Rattle.level.specs.declared.Finding.TheVariants as Finding
 use Rattle.level.specs.Level.{left_of, limit_of, gone_in, plunger_in, far, count_with, counted_as, finding_of, sought_of}
 use Rattle.motion.specs.declared.Sense.{Sense}
 use Rattle.motion.specs.declared.Body.{Body}

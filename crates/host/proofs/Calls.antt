@@ -33,7 +33,7 @@ use Rattle.machine.specs.declared.Used.TheVariants.{Ticks, S3}
 use Rattle.machine.specs.Step.{around, next_of}
 use Rattle.machine.specs.Run.{ticks_of, run_of, ready_of}
 use Rattle.machine.specs.Act.{stop_of}
-use Rattle.machine.specs.Device.{device, tip_after, turned, tick_of, halted_of, advance_of, ran_of}
+use Rattle.machine.specs.Device.{device, tip_after, tick_of, halted_of, advance_of, ran_of}
 use Rattle.machine.specs.Valid.{Valid}
 use Rattle.machine.proofs.Devices.{is_advanced, is_refused, is_run}
 use Rattle.pipettor.specs.declared.address.Address.{Address}

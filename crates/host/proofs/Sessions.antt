@@ -19,7 +19,7 @@ use Rattle.machine.specs.declared.Turned.{Turned}
 use Rattle.machine.specs.declared.Ran.{Ran}
 use Rattle.machine.specs.declared.step.Core.{Core}
 use Rattle.machine.specs.Step.{Around, around, fine, step_of, active_of}
-use Rattle.machine.specs.Device.{device, turned, fresh_of, tick_of, halted_of, advance_of, ran_of}
+use Rattle.machine.specs.Device.{turned, fresh_of, tick_of, halted_of, advance_of, ran_of}
 use Rattle.pipettor.specs.declared.address.Address.{Address}
 use Rattle.pipettor.specs.declared.Controller.{Controller}
 use Rattle.pipettor.specs.Valid.{Valid}
@@ -29,8 +29,8 @@ use Rattle.pipettor.specs.Listening.{listened_of}
 use Rattle.pipettor.proofs.Keeps.{Sized, made_is_valid, tick_keeps, stop_keeps_valid, advance_keeps, run_keeps, byte_keeps, byte_keeps_sizes, listen_keeps_valid, listen_keeps_sizes}
 use Rattle.image.specs.Progress.{progress_of}
 use Rattle.image.specs.Image.{small_of, idle}
-use Rattle.host.specs.Host.{memory, encode_of, received, moved, pose_of, address_held, news_code, spoke, spoken_of, turned_in, tick_in, run_in, stop_in, listen_in, ended_by, heard_by, byte_in}
-use Rattle.host.specs.Session.{Call, byte, listen, tick, advance, run, stop, call_in, called, call_of, written_down, session_in, session_of}
+use Rattle.host.specs.Host.{encode_of, received, moved, pose_of, address_held, news_code, spoke, spoken_of, turned_in, tick_in, run_in, stop_in, listen_in, ended_by, heard_by, byte_in}
+use Rattle.host.specs.Session.{Call, byte, listen, tick, advance, run, stop, call_in, call_of, written_down, session_in, session_of}
 use Rattle.image.proofs.Rows.{and_left}
 use Rattle.host.proofs.Back.{line_held_lem, receiver_taken, device_held_lem, mover_taken, controller_held_lem, address_held_lem}
 

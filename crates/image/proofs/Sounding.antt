@@ -5,7 +5,7 @@ use Prim.Native.Nat.{ℕ, ◌≤◌}
 use native.Mathlib.Omega.{arith}
 use borrow.Author.Tests.{le-leb, leb-true}
 use lib.Dec.{leb}
-use Rattle.settings.specs.Limits.{within, range_of, speeds_of, aspects_of, search_speeds, rates, travel_most, Between, Detected, Kept}
+use Rattle.settings.specs.Limits.{within, range_of, speeds_of, aspects_of, search_speeds, rates, travel_most, Detected, Kept}
 use Rattle.settings.specs.declared.Detection.{Detection}
 use Rattle.settings.specs.declared.Settings.{Settings}
 use Rattle.settings.specs.declared.Pace.TheVariants as P

@@ -1,6 +1,6 @@
 -- The bounds of a core that comes from making and earlier calls (machine, `Valid`), as a test.
 use Rattle.std.specs.Prelude.{ℕ, Bool, true, false, ◌&&◌, leb}
-use Rattle.settings.specs.Limits.{◌to◌, within, range_of, speeds_of, aspects_of, search_speeds, rates, travel_most}
+use Rattle.settings.specs.Limits.{within, range_of, speeds_of, aspects_of, search_speeds, rates, travel_most}
 use Rattle.settings.specs.declared.Detection.{Detection}
 use Rattle.settings.specs.declared.Settings.{Settings}
 use Rattle.settings.specs.declared.Pace.TheVariants as P

@@ -10,7 +10,6 @@ use Rattle.settings.specs.Units.{goal_of, ticks_of, millionths_of}
 use Rattle.command.specs.declared.refusal.Verdict.{Verdict}
 use Rattle.command.specs.declared.refusal.Verdict.TheVariants.{Fine, Refused}
 use Rattle.command.specs.declared.Command.{Command}
-use Rattle.command.specs.declared.Command.TheVariants as Command
 use Rattle.command.specs.declared.Way.{Way}
 use Rattle.command.specs.declared.Found.{Found}
 use Rattle.command.specs.declared.Found.TheVariants as F

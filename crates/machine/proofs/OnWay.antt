@@ -5,8 +5,8 @@ use Prim.Native.Nat.{ℕ, ◌+◌, ◌≤◌, ◌<◌}
 use native.Mathlib.Omega.{arith}
 use lib.ListN.{length}
 use Rattle.text.specs.Loops.{opens, closes, plain, part_of}
-use Rattle.text.specs.Inside.{Round, MayRun, Place}
-use Rattle.text.proofs.Inside.{After, Next, Beginning, Ending, a_place_has_a_next}
+use Rattle.text.specs.Inside.{Round, Place}
+use Rattle.text.proofs.Inside.{Next, Beginning, Ending, a_place_has_a_next}
 use Rattle.buffer.specs.declared.course.Loops.{Loops}
 use Rattle.buffer.specs.Course.{mark, pushed, popped, repeated}
 use Rattle.machine.specs.OnCourse.{Marked, starts_of, OnWay, Ahead}

@@ -14,7 +14,6 @@ use Rattle.settings.proofs.Rounding.{goal_is_within_half_an_increment}
 use Rattle.command.specs.declared.Way.{Way}
 use Rattle.command.specs.declared.Way.TheVariants.{To, Up, Down}
 use Rattle.command.specs.declared.Command.{Command}
-use Rattle.command.specs.declared.Command.TheVariants as Command
 use Rattle.command.specs.declared.refusal.Verdict.{Verdict}
 use Rattle.command.specs.declared.refusal.Verdict.TheVariants.{Fine, Refused}
 use Rattle.command.specs.declared.Found.{Found}

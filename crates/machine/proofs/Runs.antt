@@ -10,7 +10,6 @@ use Rattle.command.specs.declared.refusal.Verdict.{Verdict}
 use Rattle.command.specs.declared.refusal.Verdict.TheVariants.{Fine, Refused}
 use Rattle.command.specs.Numbers.{first_of}
 use Rattle.buffer.specs.declared.course.State.{State}
-use Rattle.buffer.specs.declared.course.State.TheVariants as State
 use Rattle.machine.specs.declared.step.Core.{Core}
 use Rattle.machine.specs.declared.step.News.{News}
 use Rattle.machine.specs.declared.step.Stepped.{Stepped}

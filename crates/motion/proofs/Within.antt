@@ -8,7 +8,6 @@ use lib.Dec.{ltb}
 use Rattle.basics.specs.Choice.{if◌then◌else◌}
 use Rattle.command.specs.declared.Way.{Way}
 use Rattle.command.specs.declared.Way.TheVariants.{To, Up, Down}
-use Rattle.motion.specs.declared.Target.{Target}
 use Rattle.motion.specs.declared.Target.TheVariants.{At, Outside}
 use Rattle.motion.specs.Motion.{within, target_of}
 

@@ -15,7 +15,7 @@ use Rattle.operand.specs.declared.Class.TheVariants.{Digit, NoComma}
 use Rattle.operand.specs.declared.Number.{Number}
 use Rattle.operand.specs.declared.Number.TheVariants.{Wrong}
 use Rattle.operand.specs.Text.{has, run, rest}
-use Rattle.operand.specs.Begins.{longest, few, follows, begins, read_in}
+use Rattle.operand.specs.Begins.{few, follows, begins, read_in}
 use Rattle.operand.specs.Number.{digits, decimals_of, followed_of, number_of, right, well_formed, behind_comma, parted, begins_two, read_in_two, pair_of, well_formed_two}
 use Rattle.operand.proofs.Runs.{run_rest, run_digits, run_every, run_through, run_seam, rest_seam, bare_head, bare, rest_bare}
 use Rattle.operand.proofs.Longest.{Starts, what_is_read_can_be_completed, one_character_more_cannot, a_well_formed_text_is_read_whole}

@@ -14,8 +14,8 @@ use Rattle.desk.specs.Hex.{byte_of, bytes_in}
 use Rattle.station.specs.declared.Station.{Station}
 use Rattle.station.specs.declared.Replied.{Replied}
 use Rattle.printing.specs.Print.{close_of, Prints}
-use Rattle.station.specs.Serve.{Served, served, said_to, silent, raw_byte, raw_from, closed, raw_of, Manned, Replies}
-use Rattle.printing.proofs.Output.{both, shorter, nothing}
+use Rattle.station.specs.Serve.{Served, served, said_to, silent, raw_from, raw_of, Manned, Replies}
+use Rattle.printing.proofs.Output.{both, nothing}
 
 -- the first byte of a text, and what follows it
 bytes_step : (u : List ℕ) → 1 < length u → bytes_in u ≡ byte_of (get_or u 0 0) (get_or u 1 0) ∷ bytes_in (drop 3 u)

@@ -48,7 +48,7 @@ use Rattle.motion.specs.Bodies.{sensing, nothing_sensed}
 use Rattle.station.specs.declared.Station.{Station}
 use Rattle.station.specs.declared.Replied.{Replied}
 use Rattle.printing.specs.Print.{ended, shown_of, place_of, used_of, added_of, Prints}
-use Rattle.station.specs.Serve.{station, on, blank, Served, served, told_of, heard_of, after, shown_by, ended_of, gone_on, sent_by, sent_of, framed_by, framed_of, placed_of, shows_ask, waited_of, used_up, ran_of, halted_of, lent_of, sensed_of, tipped_of, pressed_of, made_by, numbered_of, added_by, said_to, raw_of, did_of, served_of, Manned, Starts, Tells, Replies}
+use Rattle.station.specs.Serve.{station, on, blank, Served, served, told_of, heard_of, shown_by, ended_of, gone_on, sent_by, sent_of, framed_by, framed_of, placed_of, shows_ask, waited_of, used_up, ran_of, halted_of, lent_of, sensed_of, tipped_of, pressed_of, made_by, numbered_of, added_by, said_to, raw_of, did_of, served_of, Manned, Starts, Tells, Replies}
 use Rattle.printing.proofs.Output.{shorter}
 use Rattle.station.proofs.Signs.{small_back, minus_back}
 

@@ -1,15 +1,15 @@
 -- Theorems: at every place of a text that may run a command stands or the text ends, and behind the command is such a place again;
 -- a G stands in the loop whose g it closes.
 use mathlib.Core.Path.{◌≡◌, refl, sym, ap, subst, ◌∙◌}
-use mathlib.Core.List.{List, [], ◌∷◌, ◌++◌, append_assoc, append-nil}
+use mathlib.Core.List.{List, [], ◌∷◌, ◌++◌, append_assoc}
 use Prim.Native.Nat.{ℕ, ◌+◌, ◌≤◌, ◌<◌}
 use native.Mathlib.Omega.{arith}
-use lib.ListN.{length, take}
+use lib.ListN.{length}
 use Rattle.command.specs.declared.Command.{Command}
 use Rattle.command.specs.declared.Found.TheVariants as F
 use Rattle.command.specs.Command.{command_at}
 use Rattle.text.specs.declared.loops.Level.TheVariants.{At}
-use Rattle.text.specs.Text.{Step, reads, read_of}
+use Rattle.text.specs.Text.{Step}
 use Rattle.text.specs.Loops.{Part, opens, closes, plain, part_of, Nest, done, one, loop, spell, Proper, depth, levels}
 use Rattle.text.specs.Inside.{Round, loop_of, ends, Inside, first, past, into, behind, MayRun, start_of, Place, Before}
 use Rattle.text.proofs.Levels.{levels_append}

@@ -1,10 +1,10 @@
 -- The loop's invariant: ds stand in the buffer from i to the end, and the digits of what is left, before ds, are the digits asked for.
-use mathlib.Core.Path.{◌≡◌, refl, sym, ap, ◌∙◌}
+use mathlib.Core.Path.{◌≡◌, sym, ap, ◌∙◌}
 use mathlib.Core.List.{List, [], ◌∷◌, ◌++◌, append-nil}
 use Prim.Native.Nat.{ℕ, ◌+◌, ◌-◌, ◌/◌, ◌%◌, ◌≤◌, ◌<◌}
 use native.Mathlib.Omega.{arith}
 use borrow.Author.Rules.{rules}
-use lib.ListN.{length, set, length-set}
+use lib.ListN.{length, set}
 use lib.Seq.{append_snoc}
 use Rattle.basics.specs.Bytes.{zero_digit}
 use Rattle.basics.specs.Lay.{over}

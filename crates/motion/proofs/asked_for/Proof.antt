@@ -6,7 +6,7 @@ use borrow.Author.Tests.{lt-ltb, le-ltb}
 use Rattle.command.specs.declared.Way.{Way}
 use Rattle.command.specs.declared.Way.TheVariants.{To, Up, Down}
 use Rattle.motion.specs.declared.Target.{Target}
-use Rattle.motion.specs.declared.Target.TheVariants.{At, Outside}
+use Rattle.motion.specs.declared.Target.TheVariants.{Outside}
 use Rattle.motion.specs.Motion.{within, target_of}
 use Rattle.motion.proofs.asked_for.Statement.{statement}
 use Rattle.motion.proofs.asked_for.Tie as tie

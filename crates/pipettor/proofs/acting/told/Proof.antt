@@ -1,6 +1,5 @@
 use borrow.Author.Rules.{rules}
 use Rattle.pipettor.proofs.Tasks.{told_case, tells_no}
-use Rattle.pipettor.specs.Byte.{told_code}
 use Rattle.pipettor.proofs.acting.told.Statement.{statement}
 use Rattle.pipettor.proofs.acting.told.Tie as tie
 

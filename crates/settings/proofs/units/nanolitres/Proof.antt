@@ -1,5 +1,5 @@
 use mathlib.Core.Path.{◌≡◌, sym}
-use Prim.Native.Nat.{ℕ, ◌+◌, ◌*◌, ◌/◌}
+use Prim.Native.Nat.{ℕ}
 use native.Mathlib.Nat.{div-zero}
 use borrow.Author.Rules.{rules}
 use Rattle.settings.specs.Units.{nearest, nanolitres_of}

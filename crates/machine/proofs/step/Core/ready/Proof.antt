@@ -1,6 +1,5 @@
 use borrow.Author.Rules.{rules}
 use Rattle.machine.proofs.Stepping.{ready_case}
-use Rattle.machine.specs.Run.{ready_in}
 use Rattle.machine.proofs.step.Core.ready.Statement.{statement}
 use Rattle.machine.proofs.step.Core.ready.Tie as tie
 
