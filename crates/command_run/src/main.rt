@@ -4,121 +4,87 @@
 use command::refusal::Misread;
 use command::{Command, Found, Way};
 use settings::{Aspect, Pace, Volume};
+use std::io::{self, Stdout};
 
-fn say(what: &[u8]) {
-    io::write_all(1, what);
-}
-
-fn number(n: u32) {
-    io::print_decimal(1, n as u64);
-}
-
-fn place(at: usize) {
-    io::print_decimal(1, at as u64);
-}
-
-// A number between two texts.
-fn counted(before: &[u8], n: u32, after: &[u8]) {
-    say(before);
-    number(n);
-    say(after);
-}
-
-fn way(to: Way) {
+fn way(out: Stdout, to: Way) -> io::Result<()> {
     match to {
-        Way::To => say(b"move to "),
-        Way::Up => say(b"move up by "),
-        Way::Down => say(b"move down by "),
+        Way::To => print!(out; "move to "),
+        Way::Up => print!(out; "move up by "),
+        Way::Down => print!(out; "move down by "),
     }
 }
 
-fn volume(v: Volume) {
+fn volume(out: Stdout, v: Volume) -> io::Result<()> {
     if v.micro {
-        counted(b"", v.amount, b" nL");
-        return;
+        return print!(out; "{} nL", v.amount);
     }
-    counted(b"", v.amount, b" increments");
+    print!(out; "{} increments", v.amount)
 }
 
-fn pace(of: Pace) {
+fn pace(out: Stdout, of: Pace) -> io::Result<()> {
     match of {
-        Pace::Top => say(b"top speed "),
-        Pace::Start => say(b"start speed "),
-        Pace::Cutoff => say(b"cutoff speed "),
+        Pace::Top => print!(out; "top speed "),
+        Pace::Start => print!(out; "start speed "),
+        Pace::Cutoff => print!(out; "cutoff speed "),
     }
 }
 
-fn slopes(up: u32, down: u32) {
-    counted(b"slopes ", up, b" and ");
-    number(down);
-}
-
-fn compensate(by: u16, down: bool) {
-    counted(b"compensate ", by as u32, b"");
+fn compensate(out: Stdout, by: u16, down: bool) -> io::Result<()> {
     if down {
-        say(b" down");
-        return;
+        return print!(out; "compensate {by} down");
     }
-    say(b" up");
+    print!(out; "compensate {by} up")
 }
 
-fn aspect(of: Aspect) {
+fn aspect(out: Stdout, of: Aspect) -> io::Result<()> {
     match of {
-        Aspect::Threshold => say(b"p0"),
-        Aspect::Duration => say(b"p1"),
-        Aspect::Place => say(b"p2"),
-        Aspect::Speed => say(b"p3"),
-        Aspect::Most => say(b"p4"),
-        Aspect::Mode => say(b"p5"),
-        Aspect::Interval => say(b"p6"),
+        Aspect::Threshold => print!(out; "p0"),
+        Aspect::Duration => print!(out; "p1"),
+        Aspect::Place => print!(out; "p2"),
+        Aspect::Speed => print!(out; "p3"),
+        Aspect::Most => print!(out; "p4"),
+        Aspect::Mode => print!(out; "p5"),
+        Aspect::Interval => print!(out; "p6"),
     }
 }
 
-fn set(of: Aspect, n: u16) {
-    aspect(of);
-    counted(b" to ", n as u32, b"");
-}
-
-fn detect(here: bool) {
+fn detect(out: Stdout, here: bool) -> io::Result<()> {
     if here {
-        say(b"search from here");
-        return;
+        return print!(out; "search from here");
     }
-    say(b"search from p2");
+    print!(out; "search from p2")
 }
 
-fn eject(bare: bool) {
+fn eject(out: Stdout, bare: bool) -> io::Result<()> {
     if bare {
-        say(b"eject, with a tip or without");
-        return;
+        return print!(out; "eject, with a tip or without");
     }
-    say(b"eject the tip");
+    print!(out; "eject the tip")
 }
 
-fn command(c: Command) {
+fn command(out: Stdout, c: Command) -> io::Result<()> {
     match c {
-        Command::Initialise(speed) => counted(
-            b"initialise at ",
-            speed as u32,
-            b" increments a second",
-        ),
+        Command::Initialise(speed) => print!(out; "initialise at {speed} increments a second"),
         Command::Move(to, v) => {
-            way(to);
-            volume(v);
+            way(out, to)?;
+            volume(out, v)
         }
         Command::Speed(of, tenths) => {
-            pace(of);
-            counted(b"", tenths, b" tenths");
+            pace(out, of)?;
+            print!(out; "{tenths} tenths")
         }
-        Command::Slopes(up, down) => slopes(up, down),
-        Command::Backlash(n) => counted(b"backlash ", n, b""),
-        Command::Compensate(by, down) => compensate(by, down),
-        Command::Delay(ms) => counted(b"delay ", ms, b" ms"),
-        Command::Set(of, n) => set(of, n),
-        Command::Detect(here) => detect(here),
-        Command::Eject(bare) => eject(bare),
-        Command::Open => say(b"open a loop"),
-        Command::Close(passes) => counted(b"close a loop of ", passes, b" passes"),
+        Command::Slopes(up, down) => print!(out; "slopes {up} and {down}"),
+        Command::Backlash(n) => print!(out; "backlash {n}"),
+        Command::Compensate(by, down) => compensate(out, by, down),
+        Command::Delay(ms) => print!(out; "delay {ms} ms"),
+        Command::Set(of, n) => {
+            aspect(out, of)?;
+            print!(out; " to {n}")
+        }
+        Command::Detect(here) => detect(out, here),
+        Command::Eject(bare) => eject(out, bare),
+        Command::Open => print!(out; "open a loop"),
+        Command::Close(passes) => print!(out; "close a loop of {passes} passes"),
     }
 }
 
@@ -129,41 +95,43 @@ fn at(r: Misread) -> usize {
     }
 }
 
-fn refused(r: Misread) {
-    counted(b"refused ", r.number() as u32, b" at ");
-    place(at(r));
+fn refused(out: Stdout, r: Misread) -> io::Result<()> {
+    print!(out; "refused {} at {}", r.number(), at(r))
 }
 
-fn found(f: Found) {
+fn found(out: Stdout, f: Found) -> io::Result<()> {
     match f {
         Found::Command(c, next) => {
-            command(c);
-            say(b", next ");
-            place(next);
+            command(out, c)?;
+            print!(out; ", next {next}")
         }
-        Found::Refused(r) => refused(r),
-        Found::End => say(b"nothing"),
+        Found::Refused(r) => refused(out, r),
+        Found::End => print!(out; "nothing"),
     }
 }
 
-fn line(t: &[u8]) {
-    say(t);
-    say(b"  ");
-    found(command::command_at(t, 0));
-    say(b"\n");
+fn line(out: Stdout, t: &[u8]) -> io::Result<()> {
+    out.write_all(t)?;
+    print!(out; "  ")?;
+    found(out, command::command_at(t, 0))?;
+    println!(out)
 }
 
-fn lines(t: &[u8]) {
+fn lines(out: Stdout, t: &[u8]) -> io::Result<()> {
     let mut from = 0;
     while from < t.len() {
         let end = desk::line_end(t, from);
-        line(&t[from..end]);
+        line(out, &t[from..end])?;
         from = end + 1;
     }
+    Ok(())
 }
 
-fn main() {
+fn main(rt: HostRuntime) -> io::Result<()> {
     let mut texts = [0u8; 32768];
-    let n = io::read_full(0, &mut texts);
-    lines(&texts[..n]);
+    let mut room = &mut texts[..];
+    io::copy(&mut rt.stdin(), &mut room)?;
+    let left = room.len();
+    let n = texts.len().saturating_sub(left);
+    lines(rt.stdout(), &texts[..n])
 }
