@@ -1,8 +1,0 @@
-use Rattle.std.proofs.Common.{arith, length-take, rules}
-use Rattle.line_run.proofs.show_first.Statement.{statement}
-use Rattle.line_run.proofs.show_first.Tie as tie
-
-pub show_first_spec : {M : Type 1} → statement M
-show_first_spec =
-    tie.close
-    (tie.spec (λ c. simp length-take (omega arith)) (λ c κs. search rules) (λ c. search rules) (λ c κs. search rules) (λ c. search rules))
