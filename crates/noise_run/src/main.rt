@@ -3,8 +3,8 @@
 
 ghost use Rattle.std.specs.Prelude.{◌<◌};
 
-use libc::STDOUT_FILENO;
 use line::dt::Dt;
+use std::io;
 
 // The receiver's state and the data of the frame in hand.
 #[derive(Clone, Copy)]
@@ -74,10 +74,8 @@ fn sent(seed: u32, n: usize, i: usize) -> u8 {
 // The bytes of a frame up to a place.
 fn hear_frame(start: Receiver, seed: u32, n: usize, end: usize) -> Receiver {
     let mut r = start;
-    let mut i = 0;
-    while i < end {
+    for i in 0..end {
         r = give(r, sent(seed, n, i));
-        i += 1;
     }
     r
 }
@@ -94,25 +92,21 @@ fn damaged(r: Receiver, seed: u32, b: u8) -> Receiver {
 
 fn hear_damaged(start: Receiver, seed: u32, n: usize, at: usize, end: usize) -> Receiver {
     let mut r = start;
-    let mut i = 0;
-    while i < end {
+    for i in 0..end {
         let b = sent(seed, n, i);
         if i == at {
             r = damaged(r, seed, b);
         } else {
             r = give(r, b);
         }
-        i += 1;
     }
     r
 }
 
 fn hear_noise(start: Receiver, seed: u32, n: usize) -> Receiver {
     let mut r = start;
-    let mut i = 0;
-    while i < n {
+    for i in 0..n {
         r = give(r, any_byte(seed, i));
-        i += 1;
     }
     r
 }
@@ -136,8 +130,7 @@ fn count_in(line: Dt) -> usize {
 
 // Whether the first n bytes, 320 at most, are the same, and those that were sent.
 fn same_data(a: &[u8], b: &[u8], seed: u32, n: usize) -> bool {
-    let mut i = 0;
-    while i < n {
+    for i in 0..n {
         if 320 <= i {
             return true;
         }
@@ -153,7 +146,6 @@ fn same_data(a: &[u8], b: &[u8], seed: u32, n: usize) -> bool {
         if a[i] != data_byte(seed, i + 2) {
             return false;
         }
-        i += 1;
     }
     true
 }
@@ -204,8 +196,7 @@ fn once(holds: bool) -> u32
 fn count_alike() -> u32 {
     let mut r = fresh();
     let mut alike_so_far: u32 = 0;
-    let mut seed: u32 = 1;
-    while seed <= 3000 {
+    for seed in 1..3001 {
         r = disturbed(r, seed);
         let next = seed + 10_000;
         let n = data_in(next);
@@ -214,16 +205,13 @@ fn count_alike() -> u32 {
         let s = hear_frame(fresh(), next, n, end);
         alike_so_far += once(alike(r, s, next));
         r = give(r, 13);
-        seed += 1;
     }
     alike_so_far
 }
 
-fn main() {
-    io::write_all(
-        STDOUT_FILENO,
-        b"whole frames after noise or a damaged frame, 3000; read as by a fresh receiver and as they were sent: ",
-    );
-    io::print_decimal(STDOUT_FILENO, count_alike() as u64);
-    io::write_all(STDOUT_FILENO, b"\n");
+fn main(rt: HostRuntime) -> io::Result<()> {
+    println!(rt;
+        "whole frames after noise or a damaged frame, 3000; read as by a fresh receiver and as they were sent: {}",
+        count_alike()
+    )
 }
