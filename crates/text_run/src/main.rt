@@ -5,70 +5,50 @@ ghost use Rattle.std.specs.Prelude.{◌≡◌};
 ghost use Rattle.text.specs.Data.{received_of};
 
 use command::refusal::Misread;
+use std::io::{self, Stdout};
 use text::{Control, Data, Question, loops};
 
-fn say(what: &[u8]) {
-    io::write_all(1, what);
-}
-
-fn number(n: usize) {
-    io::print_decimal(1, n as u64);
-}
-
-fn asked(kind: &[u8], n: u32) {
-    say(kind);
-    io::print_decimal(1, n as u64);
-}
-
-fn report(q: Question) {
+fn report(out: Stdout, q: Question) -> io::Result<()> {
     match q {
-        Question::Query(n) => asked(b"report Q", n),
-        Question::Value(n) => asked(b"report ?", n),
-        Question::Address => say(b"report f"),
+        Question::Query(n) => print!(out; "report Q{n}"),
+        Question::Value(n) => print!(out; "report ?{n}"),
+        Question::Address => print!(out; "report f"),
     }
 }
 
-fn control(c: Control) {
+fn control(out: Stdout, c: Control) -> io::Result<()> {
     match c {
-        Control::Run => say(b"control R"),
-        Control::Stop => say(b"control T"),
-        Control::Again => say(b"control X"),
-        Control::Clear => say(b"control C"),
-        Control::Reset => say(b"control !R"),
+        Control::Run => print!(out; "control R"),
+        Control::Stop => print!(out; "control T"),
+        Control::Again => print!(out; "control X"),
+        Control::Clear => print!(out; "control C"),
+        Control::Reset => print!(out; "control !R"),
     }
 }
 
-fn refused(r: Misread) {
+fn refused(out: Stdout, r: Misread) -> io::Result<()> {
     match r {
-        Misread::Letter(at) => {
-            say(b"refused 2 at ");
-            number(at);
-        }
-        Misread::Operand { place, read: _ } => {
-            say(b"refused 3 at ");
-            number(place);
-        }
+        Misread::Letter(at) => print!(out; "refused 2 at {at}"),
+        Misread::Operand { place, read: _ } => print!(out; "refused 3 at {place}"),
     }
 }
 
 // Whether the loops are right of a text that stands in front.
-fn loops_of(t: &[u8], size: usize) {
+fn loops_of(out: Stdout, t: &[u8], size: usize) -> io::Result<()> {
     if t.len() < size {
-        return;
+        return Ok(());
     }
     if loops::loops_ok(&t[..size], b"") {
-        say(b", loops right");
-        return;
+        return print!(out; ", loops right");
     }
-    say(b", loops wrong");
+    print!(out; ", loops wrong")
 }
 
-fn stored_or_run(run: bool) {
+fn stored_or_run(out: Stdout, run: bool) -> io::Result<()> {
     if run {
-        say(b" to run");
-        return;
+        return print!(out; " to run");
     }
-    say(b" to store");
+    print!(out; " to store")
 }
 
 // Data as received; their spaces are dropped where they stand.
@@ -82,41 +62,44 @@ fn received(t: &mut [u8]) -> Data
     text::read(&t[..n])
 }
 
-fn tell(t: &[u8], data: Data) {
+fn tell(out: Stdout, t: &[u8], data: Data) -> io::Result<()> {
     match data {
-        Data::Report(q) => report(q),
-        Data::WrongReport => say(b"wrong report"),
-        Data::Control(c) => control(c),
+        Data::Report(q) => report(out, q),
+        Data::WrongReport => print!(out; "wrong report"),
+        Data::Control(c) => control(out, c),
         Data::Text { size, run } => {
-            say(b"text of ");
-            number(size);
-            stored_or_run(run);
-            loops_of(t, size);
+            print!(out; "text of {size}")?;
+            stored_or_run(out, run)?;
+            loops_of(out, t, size)
         }
-        Data::Wrong(r) => refused(r),
-        Data::TooLong => say(b"too long"),
+        Data::Wrong(r) => refused(out, r),
+        Data::TooLong => print!(out; "too long"),
     }
 }
 
-fn line(t: &mut [u8]) {
-    say(t);
-    say(b": ");
+fn line(out: Stdout, t: &mut [u8]) -> io::Result<()> {
+    out.write_all(t)?;
+    print!(out; ": ")?;
     let data = received(t);
-    tell(t, data);
-    say(b"\n");
+    tell(out, t, data)?;
+    println!(out)
 }
 
-fn lines(t: &mut [u8]) {
+fn lines(out: Stdout, t: &mut [u8]) -> io::Result<()> {
     let mut from = 0;
     while from < t.len() {
         let end = desk::line_end(t, from);
-        line(&mut t[from..end]);
+        line(out, &mut t[from..end])?;
         from = end + 1;
     }
+    Ok(())
 }
 
-fn main() {
+fn main(rt: HostRuntime) -> io::Result<()> {
     let mut data = [0u8; 32768];
-    let n = io::read_full(0, &mut data);
-    lines(&mut data[..n]);
+    let mut room = &mut data[..];
+    io::copy(&mut rt.stdin(), &mut room)?;
+    let left = room.len();
+    let n = data.len().saturating_sub(left);
+    lines(rt.stdout(), &mut data[..n])
 }
