@@ -9,138 +9,114 @@ use machine::Used;
 use motion::Sense;
 use pipettor::address::{Address, Given};
 use pipettor::{Controller, Said};
-
-fn say(what: &[u8]) {
-    io::write_all(1, what);
-}
-
-fn number(n: u64) {
-    io::print_decimal(1, n);
-}
+use std::io::{self, Stdout};
 
 // A byte as it is written here: what is no character by its name. LF, which a controller drops, is a new line.
-fn name(b: u8) {
+fn name(out: Stdout, b: u8) -> io::Result<()> {
     match b {
-        0 => say(b"<00h>"),
-        10 => say(b"\n"),
-        13 => say(b"<CR>"),
-        127 => say(b"<7Fh>"),
-        128 => say(b"<80h>"),
-        _ => {
-            let letter = [b];
-            say(&letter);
-        }
+        0 => print!(out; "<00h>"),
+        10 => println!(out),
+        13 => print!(out; "<CR>"),
+        127 => print!(out; "<7Fh>"),
+        128 => print!(out; "<80h>"),
+        _ => out.write_all(&[b]),
     }
 }
 
-fn word(said: Said) {
+fn word(out: Stdout, said: Said) -> io::Result<()> {
     match said {
-        Said::Silent => say(b"  silent    "),
-        Said::Answer(n) => {
-            say(b"  answer ");
-            number(n as u64);
-            say(b"  ");
-        }
-        Said::S1 => say(b"  S1        "),
+        Said::Silent => print!(out; "  silent    "),
+        Said::Answer(n) => print!(out; "  answer {n}  "),
+        Said::S1 => print!(out; "  S1        "),
     }
 }
 
 // A byte, what was said to it, and every byte of the buffer as it is: an answer ends with 03h, CR and LF.
-fn told(b: u8, said: Said, buf: &[u8]) {
-    say(b"  ");
-    name(b);
-    word(said);
-    say(buf);
-    say(b"\n");
+fn told(out: Stdout, b: u8, said: Said, buf: &[u8]) -> io::Result<()> {
+    print!(out; "  ")?;
+    name(out, b)?;
+    word(out, said)?;
+    out.write_all(buf)?;
+    println!(out)
 }
 
 // An answer's status byte and data.
-fn heart(buf: &[u8], n: usize) {
+fn heart(out: Stdout, buf: &[u8], n: usize) -> io::Result<()> {
     if n < 6 {
-        return;
+        return Ok(());
     }
     if buf.len() < n {
-        return;
+        return Ok(());
     }
     let end = n - 3;
-    say(&buf[2..end]);
+    out.write_all(&buf[2..end])
 }
 
 // A byte in a line of them, and what was said to it: silence is worth a word at a CR.
-fn noted(b: u8, said: Said, buf: &[u8]) {
+fn noted(out: Stdout, b: u8, said: Said, buf: &[u8]) -> io::Result<()> {
     match said {
         Said::Silent => {
             if b == 13 {
-                say(b" (silent)");
-                return;
+                return print!(out; " (silent)");
             }
             if b == b'/' {
-                say(b"  ");
+                print!(out; "  ")?;
             }
-            name(b);
+            name(out, b)
         }
         Said::Answer(n) => {
-            say(b" ");
-            heart(buf, n);
+            print!(out; " ")?;
+            heart(out, buf, n)
         }
-        Said::S1 => say(b" S1"),
+        Said::S1 => print!(out; " S1"),
     }
 }
 
 // Where the plunger stands, and the exact position.
-fn place(c: Controller) {
-    let device = c.device;
-    let core = device.core;
-    let body = core.body;
-    say(b": plunger ");
-    number(body.plunger as u64);
-    say(b", exact ");
-    number(body.exact);
-    say(b"\n");
+fn place(out: Stdout, c: &Controller) -> io::Result<()> {
+    let body = c.device.core.body;
+    println!(out; ": plunger {}, exact {}", body.plunger, body.exact)
 }
 
 // A byte, with the buffer lent.
-fn lend(c: Controller, b: u8, buf: &mut [u8]) -> Controller
-    requires { Valid c }
-    ensures { Valid result }
+fn lend(out: Stdout, c: &mut Controller, b: u8, buf: &mut [u8]) -> io::Result<()>
+    requires { Valid c.old }
+    ensures { Valid c.new }
 {
     let reply = c.byte(b, buf);
-    let said = reply.said;
-    told(b, said, buf);
-    reply.controller
+    *c = reply.controller;
+    told(out, b, reply.said, buf)
 }
 
 // A byte, with a buffer of n dots.
-fn give(c: Controller, b: u8, n: usize) -> Controller
-    requires valid { Valid c }
+fn give(out: Stdout, c: &mut Controller, b: u8, n: usize) -> io::Result<()>
+    requires valid { Valid c.old }
     requires n_bound { n ≤ 40 }
-    ensures { Valid result }
+    ensures { Valid c.new }
 {
     let mut dots = [b'.'; 40];
-    lend(c, b, &mut dots[..n])
+    lend(out, c, b, &mut dots[..n])
 }
 
 // A byte in a line of them.
-fn note(c: Controller, b: u8) -> Controller
-    requires { Valid c }
-    ensures { Valid result }
+fn note(out: Stdout, c: &mut Controller, b: u8) -> io::Result<()>
+    requires { Valid c.old }
+    ensures { Valid c.new }
 {
     let mut buf = [b'.'; 32];
     let reply = c.byte(b, &mut buf);
-    let said = reply.said;
-    noted(b, said, &buf);
-    reply.controller
+    *c = reply.controller;
+    noted(out, b, reply.said, &buf)
 }
 
-fn tick(c: Controller) -> Controller
-    requires { Valid c }
-    ensures { Valid result }
+fn tick(out: Stdout, c: &mut Controller) -> io::Result<()>
+    requires { Valid c.old }
+    ensures { Valid c.new }
 {
     let ticked = c.tick(Sense::nothing());
-    let after = ticked.controller;
-    say(b"  tick");
-    place(after);
-    after
+    *c = ticked.controller;
+    print!(out; "  tick")?;
+    place(out, c)
 }
 
 // How bytes are given: in a line; each with a buffer of 32 dots, or of 40; or of 32, with a tick after each.
@@ -152,38 +128,37 @@ enum Way {
     Ticking,
 }
 
-fn one(c: Controller, b: u8, way: Way) -> Controller
-    requires { Valid c }
-    ensures { Valid result }
+fn one(out: Stdout, c: &mut Controller, b: u8, way: Way) -> io::Result<()>
+    requires { Valid c.old }
+    ensures { Valid c.new }
 {
     match way {
-        Way::Line => note(c, b),
-        Way::Marked => give(c, b, 32),
-        Way::Longer => give(c, b, 40),
-        Way::Ticking => tick(give(c, b, 32)),
+        Way::Line => note(out, c, b),
+        Way::Marked => give(out, c, b, 32),
+        Way::Longer => give(out, c, b, 40),
+        Way::Ticking => {
+            give(out, c, b, 32)?;
+            tick(out, c)
+        }
     }
 }
 
-fn each(start: Controller, bytes: &[u8], way: Way) -> Controller
-    requires { Valid start }
-    ensures { Valid result }
+fn each(out: Stdout, c: &mut Controller, bytes: &[u8], way: Way) -> io::Result<()>
+    requires { Valid c.old }
+    ensures { Valid c.new }
 {
-    let mut c = start;
-    let mut i = 0;
-    while i < bytes.len() {
-        let b = bytes[i];
-        c = one(c, b, way);
-        i += 1;
+    for b in bytes {
+        one(out, c, *b, way)?;
     }
-    c
+    Ok(())
 }
 
 // Frames in a line, each with its answer's status byte and data.
-fn talk(c: Controller, bytes: &[u8]) -> Controller
-    requires { Valid c }
-    ensures { Valid result }
+fn talk(out: Stdout, c: &mut Controller, bytes: &[u8]) -> io::Result<()>
+    requires { Valid c.old }
+    ensures { Valid c.new }
 {
-    each(c, bytes, Way::Line)
+    each(out, c, bytes, Way::Line)
 }
 
 fn made(a: Address) -> Controller
@@ -204,293 +179,305 @@ fn begin(c: Controller, text: &[u8]) -> Controller
 }
 
 // What a controller made with an address answers to f, at each digit.
-fn address(n: u32) {
-    number(n as u64);
-    say(b":");
+fn address(out: Stdout, n: u32) -> io::Result<()> {
+    print!(out; "{n}:")?;
     match Address::of(n) {
-        Given::Is(a) => {
-            talk(
-                made(a),
-                b"/0f\r/1f\r/2f\r/3f\r/4f\r/5f\r/6f\r/7f\r/8f\r/9f\r\n",
-            );
-        }
-        Given::S2 => say(b" S2\n"),
+        Given::Is(a) => talk(
+            out,
+            &mut made(a),
+            b"/0f\r/1f\r/2f\r/3f\r/4f\r/5f\r/6f\r/7f\r/8f\r/9f\r\n",
+        ),
+        Given::S2 => println!(out; " S2"),
     }
 }
 
-fn addresses() {
-    say(b"Addresses\n");
-    let mut n = 0u32;
-    while n <= 10 {
-        address(n);
-        n += 1;
+fn addresses(out: Stdout) -> io::Result<()> {
+    println!(out; "Addresses")?;
+    for n in 0..11 {
+        address(out, n)?;
     }
+    Ok(())
 }
 
 // Frames by `byte` alone: 14, 2, 3, a string, a control, 15, a report; a buffer of 40 keeps its end.
-fn marked_buffers() {
-    say(b"Every byte with 32 dots\n");
-    let c = each(
-        made(Address::One),
-        b"/1X\r/1Z\r/1A44001\r/1A100\r",
-        Way::Marked,
-    );
-    let ran = each(c, b"/1R\r/1C\r/1?67\r", Way::Marked);
-    say(b"Every byte with 40 dots\n");
-    each(ran, b"/1?16\r/1T\r/1Z\r", Way::Longer);
+fn marked_buffers(out: Stdout) -> io::Result<()> {
+    println!(out; "Every byte with 32 dots")?;
+    let mut c = made(Address::One);
+    each(out, &mut c, b"/1X\r/1Z\r/1A44001\r/1A100\r", Way::Marked)?;
+    each(out, &mut c, b"/1R\r/1C\r/1?67\r", Way::Marked)?;
+    println!(out; "Every byte with 40 dots")?;
+    each(out, &mut c, b"/1?16\r/1T\r/1Z\r", Way::Longer)
 }
 
 // A byte that comes with 31 dots, between others that come with 32.
-fn short(before: &[u8], b: u8, behind: &[u8]) {
-    say(b"One with 31 dots\n");
-    let c = give(each(made(Address::One), before, Way::Marked), b, 31);
-    each(c, behind, Way::Marked);
+fn short(out: Stdout, before: &[u8], b: u8, behind: &[u8]) -> io::Result<()> {
+    println!(out; "One with 31 dots")?;
+    let mut c = made(Address::One);
+    each(out, &mut c, before, Way::Marked)?;
+    give(out, &mut c, b, 31)?;
+    each(out, &mut c, behind, Way::Marked)
 }
 
 // S1: it is not received, whether it would be kept, start a frame, be the address, drop the frame or start another.
-fn short_buffers() {
-    short(b"/1?1", b'6', b"\r");
-    short(b"/1?1", b'6', b"6\r");
-    short(b"", b'/', b"1Q\r/1Q\r");
-    short(b"/", b'1', b"1Q\r");
-    short(b"/1?1", 0, b"6\r");
-    short(b"/1?1", b'/', b"6\r");
+fn short_buffers(out: Stdout) -> io::Result<()> {
+    short(out, b"/1?1", b'6', b"\r")?;
+    short(out, b"/1?1", b'6', b"6\r")?;
+    short(out, b"", b'/', b"1Q\r/1Q\r")?;
+    short(out, b"/", b'1', b"1Q\r")?;
+    short(out, b"/1?1", 0, b"6\r")?;
+    short(out, b"/1?1", b'/', b"6\r")
 }
 
-fn noise() {
-    say(b"Noise\n");
-    let c = talk(
-        made(Address::One),
-        b"/1?\x001\r/1?1\r\n/1?\x7f1\r/1?1\r\n/1?\x801\r/1?1\r\n/\x801Q\r1Q\r/1Q\r\n",
-    );
+fn noise(out: Stdout) -> io::Result<()> {
+    println!(out; "Noise")?;
+    let mut c = made(Address::One);
     talk(
-        c,
+        out,
+        &mut c,
+        b"/1?\x001\r/1?1\r\n/1?\x7f1\r/1?1\r\n/1?\x801\r/1?1\r\n/\x801Q\r1Q\r/1Q\r\n",
+    )?;
+    talk(
+        out,
+        &mut c,
         b"/1Q\r\x80Q\r/1Q\r\n/1?1/1f\r//1Q\r/1/1Q\r\n/\r1Q\r\r/1Q\r\n/1?\n1\r/1f\r\n",
-    );
+    )
 }
 
-fn wait(c: Controller, n: u32) -> Controller
-    requires { Valid c }
-    ensures { Valid result }
+fn wait(out: Stdout, c: &mut Controller, n: u32) -> io::Result<()>
+    requires { Valid c.old }
+    ensures { Valid c.new }
 {
     let ticked = c.advance(n, Sense::nothing());
-    let after = ticked.controller;
-    say(b"  ticks ");
-    number(n as u64);
-    place(after);
-    after
+    *c = ticked.controller;
+    print!(out; "  ticks {n}")?;
+    place(out, c)
 }
 
-fn used(n: u32, u: Used) {
-    say(b"  run of ");
-    number(n as u64);
-    say(b": ");
+fn used(out: Stdout, n: u32, u: Used) -> io::Result<()> {
     match u {
-        Used::Ticks(k) => {
-            number(k as u64);
-            say(b"\n");
-        }
-        Used::S3 => say(b"S3\n"),
+        Used::Ticks(k) => println!(out; "  run of {n}: {k}"),
+        Used::S3 => println!(out; "  run of {n}: S3"),
     }
 }
 
-fn run(c: Controller, n: u32) -> Controller
-    requires { Valid c }
-    ensures { Valid result }
+fn run(out: Stdout, c: &mut Controller, n: u32) -> io::Result<()>
+    requires { Valid c.old }
+    ensures { Valid c.new }
 {
     let ran = c.run(n, Sense::nothing());
-    let u = ran.used;
-    used(n, u);
-    let ticked = ran.ticked;
-    ticked.controller
+    *c = ran.ticked.controller;
+    used(out, n, ran.used)
 }
 
 // As long as it runs, and where it then is.
-fn finish(c: Controller) -> Controller
-    requires { Valid c }
-    ensures { Valid result }
+fn finish(out: Stdout, c: &mut Controller) -> io::Result<()>
+    requires { Valid c.old }
+    ensures { Valid c.new }
 {
-    talk(run(c, 60_000), b"/1?1\r/1Q\r\n")
+    run(out, c, 60_000)?;
+    talk(out, c, b"/1?1\r/1Q\r\n")
 }
 
-fn stop(c: Controller) -> Controller
-    requires { Valid c }
-    ensures { Valid result }
+fn stop(out: Stdout, c: &mut Controller) -> io::Result<()>
+    requires { Valid c.old }
+    ensures { Valid c.new }
 {
-    let after = c.stop();
-    say(b"  stop");
-    place(after);
-    after
+    *c = c.stop();
+    print!(out; "  stop")?;
+    place(out, c)
 }
 
 // A string, and ticks.
-fn method(c: Controller, frame: &[u8], ticks: u32) -> Controller
-    requires { Valid c }
-    ensures { Valid result }
+fn method(out: Stdout, c: &mut Controller, frame: &[u8], ticks: u32) -> io::Result<()>
+    requires { Valid c.old }
+    ensures { Valid c.new }
 {
-    wait(talk(c, frame), ticks)
+    talk(out, c, frame)?;
+    wait(out, c, ticks)
 }
 
 // Frames with a tick after each of their bytes, while the plunger moves.
-fn ticking(c: Controller, string: &[u8], ticks: u32, frames: &[u8]) -> Controller
-    requires { Valid c }
-    ensures { Valid result }
+fn ticking(
+    out: Stdout,
+    c: &mut Controller,
+    string: &[u8],
+    ticks: u32,
+    frames: &[u8],
+) -> io::Result<()>
+    requires { Valid c.old }
+    ensures { Valid c.new }
 {
-    let moving = method(c, string, ticks);
-    let heard = each(moving, frames, Way::Ticking);
-    finish(heard)
+    method(out, c, string, ticks)?;
+    each(out, c, frames, Way::Ticking)?;
+    finish(out, c)
 }
 
-fn ticks_inside() {
-    say(b"A tick after every byte\n");
-    let c = ticking(
-        made(Address::One),
-        b"/1WV1000A1000R\r\n",
-        3,
-        b"/1?1\r/1A5R\r",
-    );
-    ticking(c, b"/1A1060R\r\n", 1, b"/1P95R\r/1T\r");
+fn ticks_inside(out: Stdout) -> io::Result<()> {
+    println!(out; "A tick after every byte")?;
+    let mut c = made(Address::One);
+    ticking(out, &mut c, b"/1WV1000A1000R\r\n", 3, b"/1?1\r/1A5R\r")?;
+    ticking(out, &mut c, b"/1A1060R\r\n", 1, b"/1P95R\r/1T\r")
 }
 
 // A report whose CR comes with buffers that are too short, and at last with one that is not.
-fn short_ends(c: Controller) -> Controller
-    requires { Valid c }
-    ensures { Valid result }
+fn short_ends(out: Stdout, c: &mut Controller) -> io::Result<()>
+    requires { Valid c.old }
+    ensures { Valid c.new }
 {
-    say(b"  /1Q with buffers of 1, 31 and 32\n");
-    let first = give(begin(c, b"1Q"), 13, 1);
-    let second = give(first, 13, 31);
-    give(second, 13, 32)
+    println!(out; "  /1Q with buffers of 1, 31 and 32")?;
+    *c = begin(*c, b"1Q");
+    give(out, c, 13, 1)?;
+    give(out, c, 13, 31)?;
+    give(out, c, 13, 32)
 }
 
 // What a controller answers in the state it is in, and that runs which are refused leave it there.
-fn ask(c: Controller)
+fn ask(out: Stdout, mut c: Controller) -> io::Result<()>
     requires { Valid c }
 {
-    let refused = run(short_ends(c), 60_001);
-    finish(talk(refused, b"/1?29\r/1?67\r\n"));
+    short_ends(out, &mut c)?;
+    run(out, &mut c, 60_001)?;
+    talk(out, &mut c, b"/1?29\r/1?67\r\n")?;
+    finish(out, &mut c)
 }
 
 // What is left after a stop, and what R then does.
-fn stopped(c: Controller)
-    requires { Valid c }
+fn stopped(out: Stdout, c: &mut Controller) -> io::Result<()>
+    requires { Valid c.old }
 {
-    finish(talk(c, b"/1?29\r/1?67\r/1?0\r/1?1\r/1Q\r/1R\r\n"));
+    talk(out, c, b"/1?29\r/1?67\r/1?0\r/1?1\r/1Q\r/1R\r\n")?;
+    finish(out, c)
 }
 
 // After a refused frame: stop leaves the last error, T clears it.
-fn stops(c: Controller)
+fn stops(out: Stdout, mut c: Controller) -> io::Result<()>
     requires { Valid c }
 {
-    let wrong = talk(c, b"/1Z\r\n");
-    stopped(stop(wrong));
-    stopped(talk(wrong, b"/1T\r\n"));
+    talk(out, &mut c, b"/1Z\r\n")?;
+    let mut by_host = c;
+    stop(out, &mut by_host)?;
+    stopped(out, &mut by_host)?;
+    talk(out, &mut c, b"/1T\r\n")?;
+    stopped(out, &mut c)
 }
 
 // A frame and ticks; and then what the controller answers. Before the frame stands its name: outside a frame bytes are dropped.
-fn state(ready: Controller, frame: &[u8], ticks: u32)
+fn state(out: Stdout, ready: Controller, frame: &[u8], ticks: u32) -> io::Result<()>
     requires { Valid ready }
 {
-    let c = method(ready, frame, ticks);
-    ask(c);
-    stops(c);
+    let mut c = ready;
+    method(out, &mut c, frame, ticks)?;
+    ask(out, c)?;
+    stops(out, c)
 }
 
-fn ready_states(c: Controller)
+fn ready_states(out: Stdout, c: Controller) -> io::Result<()>
     requires { Valid c }
 {
-    state(c, b"Empty\n/1C\r\n", 1);
-    state(c, b"Stored\n/1A200\r\n", 1);
-    state(c, b"Stopped\n/1A0A200R\r/1T\r\n", 1);
-    state(c, b"Done\n/1K5R\r\n", 1);
+    state(out, c, b"Empty\n/1C\r\n", 1)?;
+    state(out, c, b"Stored\n/1A200\r\n", 1)?;
+    state(out, c, b"Stopped\n/1A0A200R\r/1T\r\n", 1)?;
+    state(out, c, b"Done\n/1K5R\r\n", 1)
 }
 
 // Where a command is left, a stop makes Stopped; the loop counts are kept.
-fn running_states(c: Controller)
+fn running_states(out: Stdout, c: Controller) -> io::Result<()>
     requires { Valid c }
 {
-    state(c, b"Running, initialising\n/1WR\r\n", 2);
-    state(c, b"Running, initialising, P left\n/1WP5R\r\n", 2);
-    state(c, b"Running, moving\n/1A44000R\r\n", 5);
-    state(c, b"Running, moving, P left\n/1A44000P20R\r\n", 5);
-    state(c, b"Running, delaying\n/1M1000R\r\n", 3);
+    state(out, c, b"Running, initialising\n/1WR\r\n", 2)?;
+    state(out, c, b"Running, initialising, P left\n/1WP5R\r\n", 2)?;
+    state(out, c, b"Running, moving\n/1A44000R\r\n", 5)?;
+    state(out, c, b"Running, moving, P left\n/1A44000P20R\r\n", 5)?;
+    state(out, c, b"Running, delaying\n/1M1000R\r\n", 3)?;
     state(
+        out,
         c,
         b"Running, delaying, P left\n/1P0.01,1M1000P0.01,1R\r\n",
         4,
-    );
-    state(c, b"Running, delaying, G left\n/1gP5M50G3R\r\n", 15);
-    state(c, b"Running, between commands\n/1A1000R\r\n", 0);
+    )?;
+    state(out, c, b"Running, delaying, G left\n/1gP5M50G3R\r\n", 15)?;
+    state(out, c, b"Running, between commands\n/1A1000R\r\n", 0)
 }
 
-fn states() {
-    say(b"Every state, with the plunger at 100\n");
-    let c = method(made(Address::One), b"/1WA100R\r\n", 4);
-    ready_states(c);
-    running_states(c);
+fn states(out: Stdout) -> io::Result<()> {
+    println!(out; "Every state, with the plunger at 100")?;
+    let mut c = made(Address::One);
+    method(out, &mut c, b"/1WA100R\r\n", 4)?;
+    ready_states(out, c)?;
+    running_states(out, c)
 }
 
 // A P after a stop: 7 if it cut W.
-fn aspirate(c: Controller)
-    requires { Valid c }
+fn aspirate(out: Stdout, c: &mut Controller) -> io::Result<()>
+    requires { Valid c.old }
 {
-    let taken = method(c, b"/1P5R\r\n", 1);
-    finish(talk(taken, b"/1Q\r/1Q1\r/1?67\r\n"));
+    method(out, c, b"/1P5R\r\n", 1)?;
+    talk(out, c, b"/1Q\r/1Q1\r/1?67\r\n")?;
+    finish(out, c)
 }
 
 // W stopped after some ticks, by T and by the host.
-fn cut_w(ticks: u32) {
-    say(b"W stopped\n");
-    let there = method(made(Address::One), b"/1WA1000R\r\n", 20);
-    let c = method(there, b"/1W100R\r\n", ticks);
-    aspirate(talk(c, b"/1T\r\n"));
-    aspirate(stop(c));
+fn cut_w(out: Stdout, ticks: u32) -> io::Result<()> {
+    println!(out; "W stopped")?;
+    let mut c = made(Address::One);
+    method(out, &mut c, b"/1WA1000R\r\n", 20)?;
+    method(out, &mut c, b"/1W100R\r\n", ticks)?;
+    let mut by_host = c;
+    talk(out, &mut c, b"/1T\r\n")?;
+    aspirate(out, &mut c)?;
+    stop(out, &mut by_host)?;
+    aspirate(out, &mut by_host)
 }
 
 // A frame and ticks, and what is reported of the settings after them.
-fn keeps(c: Controller, frame: &[u8], ticks: u32) -> Controller
-    requires { Valid c }
-    ensures { Valid result }
+fn keeps(out: Stdout, c: &mut Controller, frame: &[u8], ticks: u32) -> io::Result<()>
+    requires { Valid c.old }
+    ensures { Valid c.new }
 {
-    let after = method(c, frame, ticks);
+    method(out, c, frame, ticks)?;
     talk(
-        after,
+        out,
+        c,
         b"/1?3\r/1?4\r/1?6\r/1?7\r/1?8\r/1?9\r/1?10\r/1?18\r/1?19\r/1?20\r\n",
     )
 }
 
 // A string without R, then R, X and C.
-fn controls(c: Controller) -> Controller
-    requires { Valid c }
-    ensures { Valid result }
+fn controls(out: Stdout, c: &mut Controller) -> io::Result<()>
+    requires { Valid c.old }
+    ensures { Valid c.new }
 {
-    let stored = keeps(c, b"/1P0.01,1\r\n", 1);
-    let ran = keeps(stored, b"/1R\r\n", 2);
-    let again = keeps(ran, b"/1X\r\n", 2);
-    keeps(again, b"/1C\r\n", 1)
+    keeps(out, c, b"/1P0.01,1\r\n", 1)?;
+    keeps(out, c, b"/1R\r\n", 2)?;
+    keeps(out, c, b"/1X\r\n", 2)?;
+    keeps(out, c, b"/1C\r\n", 1)
 }
 
 // What a string without R, R, X and C leave of settings and a fraction; a move; and what !R leaves.
-fn settings() {
-    say(b"Settings\n");
-    let set = keeps(
-        made(Address::One),
+fn settings(out: Stdout) -> io::Result<()> {
+    println!(out; "Settings")?;
+    let mut c = made(Address::One);
+    keeps(
+        out,
+        &mut c,
         b"/1WA1000V200v150c400L5,6K7b100P0.01,1R\r\n",
         30,
-    );
-    let moved = method(controls(set), b"/1D0.02,1R\r\n", 2);
-    keeps(moved, b"/1!R\r\n", 1);
+    )?;
+    controls(out, &mut c)?;
+    method(out, &mut c, b"/1D0.02,1R\r\n", 2)?;
+    keeps(out, &mut c, b"/1!R\r\n", 1)
 }
 
-fn main() {
-    addresses();
-    marked_buffers();
-    short_buffers();
-    noise();
-    ticks_inside();
-    states();
-    cut_w(0);
-    cut_w(1);
-    cut_w(4);
-    settings();
+fn main(rt: HostRuntime) -> io::Result<()> {
+    let out = rt.stdout();
+    addresses(out)?;
+    marked_buffers(out)?;
+    short_buffers(out)?;
+    noise(out)?;
+    ticks_inside(out)?;
+    states(out)?;
+    cut_w(out, 0)?;
+    cut_w(out, 1)?;
+    cut_w(out, 4)?;
+    settings(out)
 }
