@@ -8,6 +8,7 @@ use line::oem::Oem;
 use line::{Framing, Line};
 use pipettor::Controller;
 use pipettor::address::Address;
+use std::io::{self, Read};
 
 // The buffer is lent by `main`, which prints it: what nobody reads the compiler leaves out.
 fn hear(start: Controller, bytes: &[u8], buf: &mut [u8]) -> Controller
@@ -62,17 +63,14 @@ fn framing_by(first: u8) -> Framing {
     Framing::Oem
 }
 
-fn main() {
+fn main(rt: HostRuntime) -> io::Result<()> {
     let mut bytes = [0u8; 250];
-    libc::read(0, &mut bytes);
+    rt.stdin().read(&mut bytes)?;
     let mut buf = [b'-'; 32];
     let framing = framing_by(bytes[0]);
     let c = hear(Controller::fresh(framing, Address::One), &bytes, &mut buf);
-    let line = c.line;
-    let mut digits = [0u8; 20];
-    let n = io::decimal(in_hand(line), &mut digits);
-    libc::write(1, &digits[..n]);
-    libc::write(1, b"\n");
-    libc::write(1, &buf);
-    libc::write(1, b"\n");
+    let out = rt.stdout();
+    println!(out; "{}", in_hand(c.line))?;
+    out.write_all(&buf)?;
+    println!(out)
 }

@@ -7,6 +7,7 @@ use line::Framing;
 use motion::Sense;
 use pipettor::Controller;
 use pipettor::address::Address;
+use std::io::{self, Read, Stdout};
 
 fn end_frame(c: Controller) -> Controller
     requires { Valid c }
@@ -55,28 +56,22 @@ fn runs(start: Controller) -> Controller
     c
 }
 
-fn show(c: Controller) {
-    let device = c.device;
-    let core = device.core;
-    let body = core.body;
-    io::print_decimal(1, body.plunger as u64);
-    io::write_all(1, b" ");
-    io::print_decimal(1, body.exact);
-    io::write_all(1, b"\n");
+fn show(out: Stdout, c: Controller) -> io::Result<()> {
+    let body = c.device.core.body;
+    println!(out; "{} {}", body.plunger, body.exact)
 }
 
-fn measure(letter: u8) {
-    if letter == b't' {
-        show(ticks(method()));
-    }
-    if letter == b'r' {
-        show(runs(method()));
+fn measure(out: Stdout, letter: u8) -> io::Result<()> {
+    match letter {
+        b't' => show(out, ticks(method())),
+        b'r' => show(out, runs(method())),
+        _ => Ok(()),
     }
 }
 
-fn main() {
-    let mut letters = [0u8; 2];
-    io::read_full(0, &mut letters);
-    measure(letters[0]);
-    measure(letters[1]);
+fn main(rt: HostRuntime) -> io::Result<()> {
+    for letter in rt.stdin().bytes().take(2) {
+        measure(rt.stdout(), letter?)?;
+    }
+    Ok(())
 }
