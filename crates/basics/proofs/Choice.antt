@@ -1,7 +1,7 @@
 -- What an arm of a match shows, and what a test shows.
 use mathlib.Core.Path.{◌≡◌, refl}
 use mathlib.Core.Bool.{Bool, true, false}
-use Rattle.basics.specs.Choice.{if◌then◌else◌}
+use Rattle.std.specs.Prelude.{if◌then◌else◌}
 
 -- what is right for the case at hand is right for what is that case
 pub row : {A B : Type 0} (f : A → B) (k j : A) (r : B) → k ≡ j → r ≡ f j → r ≡ f k

@@ -1,8 +1,7 @@
 -- Bytes laid into a buffer that the caller lends.
-use Rattle.std.specs.Prelude.{ℕ, ◌+◌, ◌≡◌, Bool, List, ◌++◌, leb, length, take, drop}
+use Rattle.std.specs.Prelude.{ℕ, ◌+◌, ◌≡◌, Bool, List, ◌++◌, leb, length, take, drop, if◌then◌else◌}
 use Rattle.basics.specs.declared.Put.{Put}
 use Rattle.basics.specs.declared.Put.TheVariants.{Bytes, NoRoom}
-use Rattle.basics.specs.Choice.{if◌then◌else◌}
 
 -- the buffer with xs from a place on: what stands before, xs, and what stands behind
 unfoldable pub over : List ℕ → ℕ → List ℕ → List ℕ

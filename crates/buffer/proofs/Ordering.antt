@@ -9,7 +9,7 @@ use lib.Dec.{ltb}
 use lib.ListN.{length, take}
 use lib.Seq.{length-take-le, take-length}
 use Rattle.basics.specs.declared.Put.{Put}
-use Rattle.basics.specs.Choice.{if◌then◌else◌}
+use Rattle.std.specs.Prelude.{if◌then◌else◌}
 use Rattle.basics.specs.Lay.{Laid}
 use Rattle.basics.proofs.Choice.{by}
 use Rattle.basics.proofs.Rules.{by_order}

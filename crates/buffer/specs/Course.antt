@@ -1,6 +1,5 @@
 -- 01, "Ticks, volume and motion": how a run finds its way through the text: places, loops and their passes.
-use Rattle.std.specs.Prelude.{ℕ, ◌+◌, ◌-◌, ltb, eqb}
-use Rattle.basics.specs.Choice.{if◌then◌else◌}
+use Rattle.std.specs.Prelude.{ℕ, ◌+◌, ◌-◌, ltb, eqb, if◌then◌else◌}
 use Rattle.command.specs.declared.refusal.Refusal.{Refusal}
 use Rattle.command.specs.declared.refusal.Refusal.TheVariants as R
 use Rattle.command.specs.Numbers.{refusal_number}

@@ -1,6 +1,5 @@
 -- What the lengths of its texts say of an order; no public contract cites it.
-use Rattle.std.specs.Prelude.{ℕ, ◌+◌, Bool, List, ltb, take}
-use Rattle.basics.specs.Choice.{if◌then◌else◌}
+use Rattle.std.specs.Prelude.{ℕ, ◌+◌, Bool, List, ltb, take, if◌then◌else◌}
 use Rattle.command.specs.declared.refusal.Refusal.TheVariants as R
 use Rattle.command.specs.declared.refusal.Verdict.{Verdict}
 use Rattle.command.specs.declared.refusal.Verdict.TheVariants.{Fine, Refused}

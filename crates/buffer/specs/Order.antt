@@ -1,6 +1,5 @@
 -- 01, "The buffer": what each string and control asks in each state, and when it is refused.
-use Rattle.std.specs.Prelude.{ℕ, ◌+◌, Bool, true, false, List, [], ltb, length, take}
-use Rattle.basics.specs.Choice.{if◌then◌else◌}
+use Rattle.std.specs.Prelude.{ℕ, ◌+◌, Bool, true, false, List, [], ltb, length, take, if◌then◌else◌}
 use Rattle.basics.specs.Lay.{laid_in}
 use Rattle.command.specs.declared.refusal.Refusal.TheVariants as R
 use Rattle.command.specs.declared.refusal.Verdict.{Verdict}

@@ -4,7 +4,7 @@ use mathlib.Core.Bool.{Bool, true, false}
 use Prim.Native.Nat.{ℕ}
 use native.Mathlib.Omega.{arith}
 use lib.Dec.{eqb}
-use Rattle.basics.specs.Choice.{if◌then◌else◌}
+use Rattle.std.specs.Prelude.{if◌then◌else◌}
 use Rattle.settings.specs.declared.Aspect.{Aspect}
 use Rattle.operand.specs.declared.Pair.{Pair}
 use Rattle.command.specs.declared.Command.{Command}

@@ -7,7 +7,7 @@ use borrow.Author.Tests.{ltb-true}
 use lib.Dec.{leb, ltb}
 use mir.Val.{Fits}
 use mir.Syntax.{w16}
-use Rattle.basics.specs.Choice.{if◌then◌else◌}
+use Rattle.std.specs.Prelude.{if◌then◌else◌}
 use Rattle.settings.specs.declared.Range.{Range}
 use Rattle.settings.specs.declared.Quantity.{Quantity}
 use Rattle.settings.specs.declared.Quantity.TheVariants.{Home, Increments, Nanolitres, Slope, Backlash, Compensation, Choice, Delay, Passes}

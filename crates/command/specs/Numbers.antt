@@ -1,6 +1,5 @@
 -- 01, "Numbers that come back": the number of each refusal.
-use Rattle.std.specs.Prelude.{ℕ, ◌+◌, ltb}
-use Rattle.basics.specs.Choice.{if◌then◌else◌}
+use Rattle.std.specs.Prelude.{ℕ, ◌+◌, ltb, if◌then◌else◌}
 use Rattle.command.specs.declared.refusal.Misread.TheVariants.{Letter, Operand}
 use Rattle.command.specs.declared.refusal.Refusal.{Refusal}
 use Rattle.command.specs.declared.refusal.Refusal.TheVariants as R

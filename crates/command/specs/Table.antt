@@ -1,6 +1,5 @@
 -- 01, "Reading the data": the command table. What a letter stands for, and what its operands make of it.
-use Rattle.std.specs.Prelude.{ℕ, ◌-◌, ◌/◌, ◌^◌, Bool, true, false, List, [], ◌∷◌, leb, eqb}
-use Rattle.basics.specs.Choice.{if◌then◌else◌}
+use Rattle.std.specs.Prelude.{ℕ, ◌-◌, ◌/◌, ◌^◌, Bool, true, false, List, [], ◌∷◌, leb, eqb, if◌then◌else◌}
 use Rattle.settings.specs.declared.Range.{Range}
 use Rattle.settings.specs.declared.Pace.{Pace}
 use Rattle.settings.specs.declared.Pace.TheVariants.{Top, Start, Cutoff}

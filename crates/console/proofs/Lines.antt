@@ -10,7 +10,7 @@ use borrow.Author.Tests.{leb-true, leb-false, ltb-false, lt-ltb}
 use lib.Dec.{leb, ltb, eqb}
 use lib.ListN.{length, take, drop, length-append, length-take, length-drop, drop_of_length-le}
 use lib.Seq.{take_at, drop-drop, length-take-le}
-use Rattle.basics.specs.Choice.{if◌then◌else◌}
+use Rattle.std.specs.Prelude.{if◌then◌else◌}
 use Rattle.basics.specs.declared.Put.{Put}
 use Rattle.basics.specs.declared.Put.TheVariants.{Bytes, NoRoom}
 use Rattle.basics.specs.Lay.{over, fits, laid_in, Laid}

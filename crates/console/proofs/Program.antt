@@ -9,7 +9,7 @@ use lib.Dec.{eqb, leb, ltb}
 use lib.IntN.{ℤ}
 use lib.ListN.{length, take, length-append}
 use Rattle.io.specs.Counts.{clamp_len}
-use Rattle.basics.specs.Choice.{if◌then◌else◌}
+use Rattle.std.specs.Prelude.{if◌then◌else◌}
 use Rattle.basics.proofs.Lists.{front_counted}
 use Rattle.basics.proofs.Rules.{by_order}
 use Rattle.desk.specs.declared.Desk.{Desk}

@@ -1,7 +1,6 @@
 -- 01, "The bench program": "It reads lines, ended by LF or the input's end"; the rig too. What the bytes of the input do and print, how the program keeps them, and what it comes to.
-use Rattle.std.specs.Prelude.{ℕ, ◌+◌, ◌*◌, ◌≤◌, min, ◌≡◌, Bool, true, not, ◌||◌, List, [], ◌∷◌, ◌++◌, eqb, leb, ltb, ℤ, length, take}
+use Rattle.std.specs.Prelude.{ℕ, ◌+◌, ◌*◌, ◌≤◌, min, ◌≡◌, Bool, true, not, ◌||◌, List, [], ◌∷◌, ◌++◌, eqb, leb, ltb, ℤ, length, take, if◌then◌else◌}
 use Rattle.io.specs.Counts.{clamp_len}
-use Rattle.basics.specs.Choice.{if◌then◌else◌}
 use Rattle.desk.specs.declared.Desk.{Desk}
 use Rattle.station.specs.declared.Station.{Station}
 use Rattle.station.specs.Serve.{at_start, served_of, Manned}

@@ -8,7 +8,7 @@ use native.Mathlib.Omega.{arith}
 use borrow.Author.Tests.{eqb-true, eqb-false}
 use lib.Dec.{eqb}
 use lib.ListN.{length}
-use Rattle.basics.specs.Choice.{if◌then◌else◌}
+use Rattle.std.specs.Prelude.{if◌then◌else◌}
 use Rattle.basics.specs.Bytes.{zero_digit, digit, every, value_of}
 use Rattle.basics.proofs.Digits.{value_append, value_one, digit_is, every_append, and_both}
 use Rattle.decimal.specs.Digits.{last_digits, trim, digits_of, long_of}

@@ -1,6 +1,5 @@
 -- 01, "Reports": "Whole numbers have no leading zeros; increments a second one decimal, µL three."
-use Rattle.std.specs.Prelude.{ℕ, zero, suc, ◌+◌, ◌/◌, ◌%◌, ◌^◌, List, [], ◌∷◌, ◌++◌, eqb}
-use Rattle.basics.specs.Choice.{if◌then◌else◌}
+use Rattle.std.specs.Prelude.{ℕ, zero, suc, ◌+◌, ◌/◌, ◌%◌, ◌^◌, List, [], ◌∷◌, ◌++◌, eqb, if◌then◌else◌}
 use Rattle.basics.specs.Bytes.{zero_digit, point}
 use Rattle.decimal.specs.declared.Decimals.{Decimals}
 use Rattle.decimal.specs.declared.Decimals.TheVariants.{One, Three}

@@ -1,6 +1,5 @@
 -- The three demands, over any calls from making. What they say of frames stands in `specs/Frames`, of what calls leave in hand in `specs/InHand`. `proofs/Demands` proves 1 and 3, `proofs/Agreement` 2.
-use Rattle.std.specs.Prelude.{ℕ, ◌≤◌, ◌<◌, ◌≡◌, ◌⊎◌, Bool, true, false, List, [], ◌∷◌, ◌++◌, length, take, drop}
-use Rattle.basics.specs.Choice.{if◌then◌else◌}
+use Rattle.std.specs.Prelude.{ℕ, ◌≤◌, ◌<◌, ◌≡◌, ◌⊎◌, Bool, true, false, List, [], ◌∷◌, ◌++◌, length, take, drop, if◌then◌else◌}
 use Rattle.basics.specs.Exactly.{Exactly}
 use Rattle.settings.specs.declared.Volume.{Volume}
 use Rattle.command.specs.declared.refusal.Refusal.{Refusal}

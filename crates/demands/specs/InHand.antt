@@ -1,7 +1,6 @@
 -- What has been received of a frame after any calls, by the words of 01 and 02 alone: without the receiver, its limit of 320 data bytes, or the frame it keeps.
 -- And what one more byte then does, whatever ticks, runs, stops and buffers came between the bytes of a frame.
-use Rattle.std.specs.Prelude.{ℕ, ◌≤◌, ◌≡◌, Bool, true, false, ◌&&◌, List, [], ◌∷◌, ◌++◌, ltb, eqb, length}
-use Rattle.basics.specs.Choice.{if◌then◌else◌}
+use Rattle.std.specs.Prelude.{ℕ, ◌≤◌, ◌≡◌, Bool, true, false, ◌&&◌, List, [], ◌∷◌, ◌++◌, ltb, eqb, length, if◌then◌else◌}
 use Rattle.basics.specs.Exactly.{Exactly}
 use Rattle.line.specs.declared.Framing.{Framing}
 use Rattle.line.specs.declared.Framing.TheVariants as F

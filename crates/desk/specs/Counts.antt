@@ -1,6 +1,5 @@
 -- A number in a line: "written without leading zeros, at most 6 digits"; at the bench "no leading zero".
-use Rattle.std.specs.Prelude.{ℕ, ◌/◌, List, [], ◌∷◌, eqb, length}
-use Rattle.basics.specs.Choice.{if◌then◌else◌}
+use Rattle.std.specs.Prelude.{ℕ, ◌/◌, List, [], ◌∷◌, eqb, length, if◌then◌else◌}
 use Rattle.basics.specs.Bytes.{zero_digit}
 use Rattle.operand.specs.declared.Number.{Number}
 use Rattle.operand.specs.declared.Number.TheVariants as N

@@ -16,7 +16,7 @@ use Rattle.line.specs.declared.Framing.{Framing}
 use Rattle.line.specs.declared.Line.{Line}
 use Rattle.line.specs.declared.Heard.{Heard}
 use Rattle.line.specs.declared.Deed.TheVariants.{Nothing, Keep, Frame}
-use Rattle.basics.specs.Choice.{if◌then◌else◌}
+use Rattle.std.specs.Prelude.{if◌then◌else◌}
 use Rattle.line.specs.Wire.{Received, hear_of, keep_of, data_byte}
 use Rattle.line.specs.declared.Framing.TheVariants as F
 use Rattle.line.proofs.Framed.{inside_dt, dt_collects}

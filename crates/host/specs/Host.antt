@@ -1,6 +1,5 @@
 -- What each function for hosts does: the method, between reading the host's memory and writing it. Each is lent the parts of the memory that it needs.
-use Rattle.std.specs.Prelude.{ℕ, ◌+◌, ◌*◌, List, [], ◌∷◌, Bool, true, false, ◌&&◌, ltb, eqb, length, get_or, set}
-use Rattle.basics.specs.Choice.{if◌then◌else◌}
+use Rattle.std.specs.Prelude.{ℕ, ◌+◌, ◌*◌, List, [], ◌∷◌, Bool, true, false, ◌&&◌, ltb, eqb, length, get_or, set, if◌then◌else◌}
 use Rattle.command.specs.Numbers.{verdict_number}
 use Rattle.line.specs.declared.Framing.TheVariants as F
 use Rattle.line.specs.declared.Line.{Line}

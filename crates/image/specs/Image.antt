@@ -1,6 +1,5 @@
 -- A controller's numbers in memory that the host keeps, each at its own width, and how they are read.
-use Rattle.std.specs.Prelude.{ℕ, ◌+◌, ◌≡◌, Bool, true, false, ◌&&◌, List, [], ◌∷◌, ltb, leb, eqb, get_or, set}
-use Rattle.basics.specs.Choice.{if◌then◌else◌}
+use Rattle.std.specs.Prelude.{ℕ, ◌+◌, ◌≡◌, Bool, true, false, ◌&&◌, List, [], ◌∷◌, ltb, leb, eqb, get_or, set, if◌then◌else◌}
 use Rattle.line.specs.declared.Framing.TheVariants as F
 use Rattle.line.specs.Wire.{data_byte}
 use Rattle.line.specs.declared.Line.{Line}

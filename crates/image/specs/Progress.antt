@@ -1,6 +1,5 @@
 -- The buffer's state in the host's memory: eleven tags, and the numbers that go with them; those that don't are 0.
-use Rattle.std.specs.Prelude.{ℕ, Bool, ◌&&◌, eqb}
-use Rattle.basics.specs.Choice.{if◌then◌else◌}
+use Rattle.std.specs.Prelude.{ℕ, Bool, ◌&&◌, eqb, if◌then◌else◌}
 use Rattle.level.specs.declared.Search.{Search}
 use Rattle.motion.specs.declared.Travel.{Travel}
 use Rattle.motion.specs.declared.Activity.{Activity}

@@ -1,6 +1,5 @@
 -- A line in the host's memory: eight tags, and the numbers that go with them; those that don't are 0.
-use Rattle.std.specs.Prelude.{ℕ, Bool, ◌&&◌, eqb}
-use Rattle.basics.specs.Choice.{if◌then◌else◌}
+use Rattle.std.specs.Prelude.{ℕ, Bool, ◌&&◌, eqb, if◌then◌else◌}
 use Rattle.line.specs.declared.Line.{Line}
 use Rattle.line.specs.declared.Line.TheVariants.{Dt, Oem}
 use Rattle.line.specs.declared.dt.Dt as DT

@@ -1,6 +1,5 @@
 -- 02, W-206, "Liquid level detection" (004, 6.1): what a reading is, and a tick of the search.
-use Rattle.std.specs.Prelude.{ℕ, ◌+◌, ◌-◌, ◌*◌, min, ◌≤◌, Bool, ltb, leb, eqb, ℤ, pos, negsuc}
-use Rattle.basics.specs.Choice.{if◌then◌else◌}
+use Rattle.std.specs.Prelude.{ℕ, ◌+◌, ◌-◌, ◌*◌, min, ◌≤◌, Bool, ltb, leb, eqb, ℤ, pos, negsuc, if◌then◌else◌}
 use Rattle.settings.specs.declared.Detection.{Detection}
 use Rattle.settings.specs.declared.Quantity.TheVariants.{Increments}
 use Rattle.settings.specs.Limits.{range_of}

@@ -1,6 +1,5 @@
 -- 01, "From the wire": answers and the status byte; and 02, W-204: what an answer is in OEM framing.
-use Rattle.std.specs.Prelude.{ℕ, ◌+◌, ◌%◌, ◌≡◌, Bool, List, [], ◌∷◌, ◌++◌, ltb, length, take}
-use Rattle.basics.specs.Choice.{if◌then◌else◌}
+use Rattle.std.specs.Prelude.{ℕ, ◌+◌, ◌%◌, ◌≡◌, Bool, List, [], ◌∷◌, ◌++◌, ltb, length, take, if◌then◌else◌}
 use Rattle.basics.specs.Bytes.{zero_digit}
 use Rattle.basics.specs.Lay.{over}
 use Rattle.decimal.specs.Digits.{fixed_of}

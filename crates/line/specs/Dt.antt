@@ -1,6 +1,5 @@
 -- 01, "From the wire": "Frame: `/` (2Fh), address, data, CR (0Dh). Bytes come one at a time."
-use Rattle.std.specs.Prelude.{ℕ, ◌+◌, ◌≤◌, ltb, eqb}
-use Rattle.basics.specs.Choice.{if◌then◌else◌}
+use Rattle.std.specs.Prelude.{ℕ, ◌+◌, ◌≤◌, ltb, eqb, if◌then◌else◌}
 use Rattle.line.specs.declared.Deed.TheVariants.{Nothing, Keep, Frame}
 use Rattle.line.specs.declared.dt.Dt.{Dt}
 use Rattle.line.specs.declared.dt.Dt.TheVariants.{Outside, Started, Collecting}

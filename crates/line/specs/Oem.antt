@@ -1,7 +1,6 @@
 -- 02, W-204, "OEM framing": "Received: 02h, address, sequence 30h to 37h (otherwise unused), data, 03h, then the exclusive-or of everything before it."
-use Rattle.std.specs.Prelude.{ℕ, ◌+◌, ◌≤◌, Bool, ◌&&◌, ltb, leb, eqb}
+use Rattle.std.specs.Prelude.{ℕ, ◌+◌, ◌≤◌, Bool, ◌&&◌, ltb, leb, eqb, if◌then◌else◌}
 use Rattle.std.specs.Int.Bits.{bit_xor}
-use Rattle.basics.specs.Choice.{if◌then◌else◌}
 use Rattle.line.specs.declared.Deed.TheVariants.{Nothing, Keep, Frame}
 use Rattle.line.specs.declared.oem.Head.{Head}
 use Rattle.line.specs.declared.oem.Oem.{Oem}

@@ -1,6 +1,5 @@
 -- A receiver of either framing, chosen when a controller is made (02, W-204: "It stands beside DT, chosen at making"): DT's rules stand in `Dt`, OEM's in `Oem`. And frames as they are sent.
-use Rattle.std.specs.Prelude.{ℕ, ◌≡◌, Bool, true, false, ◌&&◌, not, List, [], ◌∷◌, ◌++◌, eqb, set}
-use Rattle.basics.specs.Choice.{if◌then◌else◌}
+use Rattle.std.specs.Prelude.{ℕ, ◌≡◌, Bool, true, false, ◌&&◌, not, List, [], ◌∷◌, ◌++◌, eqb, set, if◌then◌else◌}
 use Rattle.basics.specs.Bytes.{every}
 use Rattle.line.specs.declared.Framing.{Framing}
 use Rattle.line.specs.declared.Framing.TheVariants as F

@@ -1,6 +1,5 @@
 -- 01, "The buffer": what strings and controls do to the plunger and the buffer.
-use Rattle.std.specs.Prelude.{ℕ, ◌≤◌, ◌≡◌, Bool, List, length, take}
-use Rattle.basics.specs.Choice.{if◌then◌else◌}
+use Rattle.std.specs.Prelude.{ℕ, ◌≤◌, ◌≡◌, Bool, List, length, take, if◌then◌else◌}
 use Rattle.command.specs.declared.refusal.Verdict.{Verdict}
 use Rattle.command.specs.declared.refusal.Verdict.TheVariants.{Fine, Refused}
 use Rattle.command.specs.Numbers.{refusal_number}

@@ -1,6 +1,5 @@
 -- The text's array and the core together: what the host calls.
-use Rattle.std.specs.Prelude.{ℕ, Bool, false, List, ltb, eqb, replicate}
-use Rattle.basics.specs.Choice.{if◌then◌else◌}
+use Rattle.std.specs.Prelude.{ℕ, Bool, false, List, ltb, eqb, replicate, if◌then◌else◌}
 use Rattle.motion.specs.declared.Sense.{Sense}
 use Rattle.motion.specs.Events.{Turn}
 use Rattle.motion.specs.Motion.{fresh_body}

@@ -1,6 +1,5 @@
 -- 01, "Ticks, volume and motion": one tick.
-use Rattle.std.specs.Prelude.{ℕ, Bool, true, false, ◌||◌, List, take}
-use Rattle.basics.specs.Choice.{if◌then◌else◌}
+use Rattle.std.specs.Prelude.{ℕ, Bool, true, false, ◌||◌, List, take, if◌then◌else◌}
 use Rattle.command.specs.declared.refusal.Refusal.{Refusal}
 use Rattle.command.specs.declared.refusal.Refusal.TheVariants as R
 use Rattle.command.specs.declared.refusal.Verdict.{Verdict}

@@ -1,6 +1,5 @@
 -- 02, W-203, "Tips": when the host is asked to eject, and when the tip counts.
-use Rattle.std.specs.Prelude.{ℕ, ◌<◌, ◌≡◌, Bool, true, false, List, eqb}
-use Rattle.basics.specs.Choice.{if◌then◌else◌}
+use Rattle.std.specs.Prelude.{ℕ, ◌<◌, ◌≡◌, Bool, true, false, List, eqb, if◌then◌else◌}
 use Rattle.basics.specs.Bytes.{every}
 use Rattle.command.specs.declared.refusal.Refusal.{Refusal}
 use Rattle.command.specs.declared.Command.TheVariants as C

@@ -1,6 +1,5 @@
 // What strings and controls do to the plunger and the buffer.
-ghost use Rattle.std.specs.Prelude.{◌≡◌, ◌≤◌, length};
-ghost use Rattle.basics.specs.Choice.{if◌then◌else◌};
+ghost use Rattle.std.specs.Prelude.{◌≡◌, ◌≤◌, length, if◌then◌else◌};
 ghost use Rattle.buffer.specs.Course.{waiting, begun};
 ghost use Rattle.buffer.specs.Order.{length_by};
 ghost use Rattle.machine.specs.Valid.{Valid};

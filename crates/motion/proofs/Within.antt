@@ -5,7 +5,7 @@ use Prim.Native.Nat.{ℕ, ◌+◌, ◌-◌, ◌≤◌}
 use native.Mathlib.Omega.{arith}
 use borrow.Author.Tests.{ltb-false}
 use lib.Dec.{ltb}
-use Rattle.basics.specs.Choice.{if◌then◌else◌}
+use Rattle.std.specs.Prelude.{if◌then◌else◌}
 use Rattle.command.specs.declared.Way.{Way}
 use Rattle.command.specs.declared.Way.TheVariants.{To, Up, Down}
 use Rattle.motion.specs.declared.Target.TheVariants.{At, Outside}

@@ -1,6 +1,5 @@
 -- A movement, a body with a part of it changed, and what a host senses.
-use Rattle.std.specs.Prelude.{ℕ, ◌+◌, ◌-◌, ◌*◌, Bool, false, leb, ℤ, pos}
-use Rattle.basics.specs.Choice.{if◌then◌else◌}
+use Rattle.std.specs.Prelude.{ℕ, ◌+◌, ◌-◌, ◌*◌, Bool, false, leb, ℤ, pos, if◌then◌else◌}
 use Rattle.settings.specs.declared.Settings.{Settings}
 use Rattle.settings.specs.Units.{gone_of}
 use Rattle.motion.specs.declared.Sense.{Sense}

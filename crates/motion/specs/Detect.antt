@@ -1,6 +1,5 @@
 -- 02, W-206, "Liquid level detection": B, the move to p2, and the search, as they move the plunger. A tick of the search itself: level, `Level`.
-use Rattle.std.specs.Prelude.{ℕ, ◌*◌, Bool, true, false, ◌&&◌, eqb}
-use Rattle.basics.specs.Choice.{if◌then◌else◌}
+use Rattle.std.specs.Prelude.{ℕ, ◌*◌, Bool, true, false, ◌&&◌, eqb, if◌then◌else◌}
 use Rattle.settings.specs.declared.Detection.{Detection}
 use Rattle.command.specs.declared.refusal.Refusal.TheVariants as R
 use Rattle.level.specs.declared.Pressure.{Pressure}

@@ -6,7 +6,7 @@ use Prim.Native.Nat.{ℕ, zero, suc, ◌+◌, ◌-◌, ◌≤◌, ◌<◌}
 use native.Mathlib.Omega.{arith}
 use lib.ListN.{length, take, drop, get_or, drop_of_length-le, length-append}
 use lib.Seq.{get_or-take, take-length, take-append_seam, drop-append_seam}
-use Rattle.basics.specs.Choice.{if◌then◌else◌}
+use Rattle.std.specs.Prelude.{if◌then◌else◌}
 use Rattle.basics.specs.Bytes.{digit, every}
 use Rattle.basics.proofs.Digits.{and_both}
 use Rattle.basics.proofs.Lists.{drop_step, tail_all}

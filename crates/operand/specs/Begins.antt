@@ -1,6 +1,5 @@
 -- W-202: "The number reader's refusal shall promise how many characters it had read": the longest beginning of its text that a number's text may have too.
-use Rattle.std.specs.Prelude.{ℕ, zero, suc, List, [], ◌∷◌, Bool, true, ◌&&◌, leb, eqb, length, take}
-use Rattle.basics.specs.Choice.{if◌then◌else◌}
+use Rattle.std.specs.Prelude.{ℕ, zero, suc, List, [], ◌∷◌, Bool, true, ◌&&◌, leb, eqb, length, take, if◌then◌else◌}
 use Rattle.basics.specs.Bytes.{digit, point, every}
 use Rattle.operand.specs.declared.Class.TheVariants.{Digit}
 use Rattle.operand.specs.Text.{run, rest}

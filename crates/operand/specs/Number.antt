@@ -1,6 +1,5 @@
 -- 01, "Reading the data": "A number has 1 to 6 digits, then optionally a point with 1 to 3 digits. Leading zeros are allowed."
-use Rattle.std.specs.Prelude.{ℕ, ◌+◌, ◌-◌, ◌*◌, ◌^◌, List, [], ◌∷◌, Bool, true, false, ◌&&◌, leb, eqb, length}
-use Rattle.basics.specs.Choice.{if◌then◌else◌}
+use Rattle.std.specs.Prelude.{ℕ, ◌+◌, ◌-◌, ◌*◌, ◌^◌, List, [], ◌∷◌, Bool, true, false, ◌&&◌, leb, eqb, length, if◌then◌else◌}
 use Rattle.basics.specs.Bytes.{digit, point, every, value_of}
 use Rattle.operand.specs.declared.Class.TheVariants.{Digit, NoComma}
 use Rattle.operand.specs.declared.Number.{Number}

@@ -1,6 +1,5 @@
 -- Which bytes an operand text has, and how far a text is of one class.
-use Rattle.std.specs.Prelude.{ℕ, List, [], ◌∷◌, Bool, ◌||◌, not, eqb}
-use Rattle.basics.specs.Choice.{if◌then◌else◌}
+use Rattle.std.specs.Prelude.{ℕ, List, [], ◌∷◌, Bool, ◌||◌, not, eqb, if◌then◌else◌}
 use Rattle.basics.specs.Bytes.{digit, point}
 use Rattle.operand.specs.declared.Class.{Class}
 use Rattle.operand.specs.declared.Class.TheVariants.{Digit, Operand, NoComma}

@@ -1,6 +1,5 @@
 -- 01, "From the wire": "Our address is one of `1` to `9`, fixed when the controller is made."
-use Rattle.std.specs.Prelude.{ℕ, eqb}
-use Rattle.basics.specs.Choice.{if◌then◌else◌}
+use Rattle.std.specs.Prelude.{ℕ, eqb, if◌then◌else◌}
 use Rattle.pipettor.specs.declared.address.Address.{Address}
 use Rattle.pipettor.specs.declared.address.Address.TheVariants.{One, Two, Three, Four, Five, Six, Seven, Eight, Nine}
 use Rattle.pipettor.specs.declared.address.Given.{Given}

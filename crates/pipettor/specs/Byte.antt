@@ -1,6 +1,5 @@
 -- From a byte received to the bytes answered: the layers' own definitions, one after the other.
-use Rattle.std.specs.Prelude.{ℕ, Bool, true, false, List, ◌≡◌, ltb, eqb, length, take}
-use Rattle.basics.specs.Choice.{if◌then◌else◌}
+use Rattle.std.specs.Prelude.{ℕ, Bool, true, false, List, ◌≡◌, ltb, eqb, length, take, if◌then◌else◌}
 use Rattle.basics.specs.Lay.{over}
 use Rattle.command.specs.declared.refusal.Refusal.TheVariants as R
 use Rattle.command.specs.declared.refusal.Verdict.{Verdict}

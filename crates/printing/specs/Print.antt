@@ -1,6 +1,5 @@
 -- What lines print: 01, "The bench program", and the training rig.
-use Rattle.std.specs.Prelude.{ℕ, ◌+◌, ◌≤◌, ◌/◌, ◌%◌, ◌≡◌, Bool, true, false, not, List, [], ◌∷◌, ◌++◌, leb, eqb, length, take}
-use Rattle.basics.specs.Choice.{if◌then◌else◌}
+use Rattle.std.specs.Prelude.{ℕ, ◌+◌, ◌≤◌, ◌/◌, ◌%◌, ◌≡◌, Bool, true, false, not, List, [], ◌∷◌, ◌++◌, leb, eqb, length, take, if◌then◌else◌}
 use Rattle.basics.specs.Bytes.{chars, every}
 use Rattle.basics.specs.Lay.{over}
 use Rattle.decimal.specs.Digits.{digits_of, long_of}

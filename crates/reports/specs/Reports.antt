@@ -1,6 +1,5 @@
 -- 01, "Reports".
-use Rattle.std.specs.Prelude.{ℕ, ◌+◌, ◌≤◌, Bool, true, false, ◌&&◌, eqb, leb}
-use Rattle.basics.specs.Choice.{if◌then◌else◌}
+use Rattle.std.specs.Prelude.{ℕ, ◌+◌, ◌≤◌, Bool, true, false, ◌&&◌, eqb, leb, if◌then◌else◌}
 use Rattle.settings.specs.declared.Settings.{Settings}
 use Rattle.settings.specs.declared.Detection.{Detection}
 use Rattle.settings.specs.Units.{flow_of, nanolitres_of}

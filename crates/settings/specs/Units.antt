@@ -1,6 +1,5 @@
 -- 01, "Ticks, volume and motion" and "Reports": the arithmetic of speeds, delays, volumes and distances.
-use Rattle.std.specs.Prelude.{ℕ, ◌+◌, ◌-◌, ◌*◌, ◌/◌, min, ◌≤◌, Bool, ltb}
-use Rattle.basics.specs.Choice.{if◌then◌else◌}
+use Rattle.std.specs.Prelude.{ℕ, ◌+◌, ◌-◌, ◌*◌, ◌/◌, min, ◌≤◌, Bool, ltb, if◌then◌else◌}
 use Rattle.settings.specs.declared.Volume.{Volume}
 
 -- a / b to the nearest whole number, half upwards

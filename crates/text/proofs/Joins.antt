@@ -5,7 +5,7 @@ use mathlib.Core.List.{List, [], ◌∷◌, ◌++◌}
 use Prim.Native.Nat.{ℕ, ◌+◌}
 use native.Mathlib.Omega.{arith}
 use lib.ListN.{length}
-use Rattle.basics.specs.Choice.{if◌then◌else◌}
+use Rattle.std.specs.Prelude.{if◌then◌else◌}
 use Rattle.operand.specs.declared.Class.TheVariants.{Operand}
 use Rattle.operand.specs.Text.{has, run, rest, operand_text}
 use Rattle.operand.proofs.Runs.{run_rest}

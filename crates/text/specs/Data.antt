@@ -1,6 +1,5 @@
 -- 01, "Reading the data": what the data of a frame are.
-use Rattle.std.specs.Prelude.{ℕ, ◌+◌, ◌/◌, Bool, false, ◌&&◌, List, [], ◌∷◌, eqb, ltb, length, set, ◌≡◌}
-use Rattle.basics.specs.Choice.{if◌then◌else◌}
+use Rattle.std.specs.Prelude.{ℕ, ◌+◌, ◌/◌, Bool, false, ◌&&◌, List, [], ◌∷◌, eqb, ltb, length, set, ◌≡◌, if◌then◌else◌}
 use Rattle.basics.specs.Lay.{over}
 use Rattle.operand.specs.declared.Number.{Number}
 use Rattle.operand.specs.declared.Number.TheVariants as N

@@ -8,7 +8,7 @@ use borrow.Author.Rules.{rules}
 use lib.Dec.{eqb}
 use lib.ListN.{length, take, drop, get_or, set, length-append, length-set}
 use lib.Seq.{take_all, append_snoc, set_at, get_or-append-add, get_or-drop}
-use Rattle.basics.specs.Choice.{if◌then◌else◌}
+use Rattle.std.specs.Prelude.{if◌then◌else◌}
 use Rattle.basics.specs.Lay.{over}
 use Rattle.basics.proofs.Lists.{drop_step}
 use Rattle.text.specs.Data.{spaceless, Squeezed, KeptByte}
