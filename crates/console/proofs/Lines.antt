@@ -2,7 +2,7 @@
 use mathlib.Core.Path.{◌≡◌, refl, sym, ap, subst, ◌∙◌}
 use mathlib.Core.Bool.{Bool, true, false, false≢true}
 use mathlib.Core.List.{List, [], ◌∷◌, ◌++◌, append-nil, append_assoc}
-use Prim.Native.Nat.{ℕ, zero, suc, ◌+◌, ◌-◌, ◌*◌, ◌≤◌, ◌<◌}
+use Prim.Native.Nat.{ℕ, suc, ◌+◌, ◌-◌, ◌*◌, ◌≤◌, ◌<◌}
 use native.Mathlib.Omega.{arith}
 use mir.Syntax.{w64}
 use mir.Val.{Fits}
@@ -15,13 +15,11 @@ use Rattle.basics.specs.declared.Put.{Put}
 use Rattle.basics.specs.declared.Put.TheVariants.{Bytes, NoRoom}
 use Rattle.basics.specs.Lay.{over, fits, laid_in, Laid}
 use Rattle.basics.proofs.Choice.{by}
-use Rattle.basics.proofs.Laying.{laid}
 use Rattle.basics.proofs.Lists.{front_counted}
 use Rattle.basics.proofs.Over.{length_over}
 use Rattle.basics.proofs.Rules.{by_order}
 use Rattle.desk.specs.Desk.{line_of, LineEnd}
 use Rattle.desk.proofs.Lines.{long}
-use Rattle.desk.specs.declared.Asked.{Asked}
 use Rattle.desk.specs.declared.Asked.TheVariants.{Wrong}
 use Rattle.station.specs.declared.Station.{Station}
 use Rattle.station.specs.declared.Replied.{Replied}

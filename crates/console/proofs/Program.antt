@@ -6,9 +6,9 @@ use Prim.Native.Nat.{ℕ, ◌+◌, ◌≤◌}
 use native.Mathlib.Omega.{arith}
 use borrow.Author.Tests.{ne_eqb, eqb-false, le-leb}
 use lib.Dec.{eqb, leb, ltb}
-use lib.IntN.{ℤ}
 use lib.ListN.{length, take, length-append}
-use Rattle.io.specs.Counts.{clamp_len}
+use Rattle.std.proofs.Common.{min, Result, Ok, Err}
+use Rattle.std.proofs.lemmas.List.{take_min}
 use Rattle.std.specs.Prelude.{if◌then◌else◌}
 use Rattle.basics.proofs.Lists.{front_counted}
 use Rattle.basics.proofs.Rules.{by_order}
@@ -76,14 +76,15 @@ module _ (bytes : List ℕ) (a b : Memory) where
     eats = record { sound = r.sound; stands = λ s h. rw t (r.stands s h) };
   }
 
--- what was brought, counted
-module _ (chunk : List ℕ) (m : ℕ) where
-  pub part_short : length chunk ≡ 2048 → m ≤ length chunk → m ≡ length (take m chunk) → length (take m chunk) ≤ 2048
-  part_short w h e = omega arith
-
-  pub handed_on : (got : ℤ) (a b : Memory) (over : Bool) → m ≡ clamp_len got (length chunk) → Reads (take m chunk) a b over → Reads (brought got chunk) a b over
+-- what a read brought, by its answer
+module _ {E : Type 0} (got : Result ℕ E) (chunk : List ℕ) (a b : Memory) (over : Bool) where
+  pub brought_some : (n m : ℕ) → got ≡ Ok n → m ≡ min n (length chunk) → Reads (take m chunk) a b over → Reads (brought got chunk) a b over
   unfolding brought
-  handed_on got a b over e r = rw e at r
+  brought_some n m o e r = rw o (rw (e, take_min) at r)
+
+  pub brought_none : (e : E) → got ≡ Err e → Reads [] a b over → Reads (brought got chunk) a b over
+  unfolding brought
+  brought_none e o r = rw o r
 
 -- the program before each read: it has eaten some input, and written what that prints
 pub record Served (desk : Desk) (k : Station) (n : ℕ) (line out : List ℕ) (reads : ℕ) : Type 0 where

@@ -1,6 +1,5 @@
 -- 01, "The bench program": "It reads lines, ended by LF or the input's end"; the rig too. What the bytes of the input do and print, how the program keeps them, and what it comes to.
-use Rattle.std.specs.Prelude.{ℕ, ◌+◌, ◌*◌, ◌≤◌, min, ◌≡◌, Bool, true, not, ◌||◌, List, [], ◌∷◌, ◌++◌, eqb, leb, ltb, ℤ, length, take, if◌then◌else◌}
-use Rattle.io.specs.Counts.{clamp_len}
+use Rattle.std.specs.Prelude.{ℕ, ◌+◌, ◌*◌, ◌≤◌, min, ◌≡◌, Bool, true, not, ◌||◌, List, [], ◌∷◌, ◌++◌, eqb, leb, ltb, Result, Ok, Err, length, take, if◌then◌else◌}
 use Rattle.desk.specs.declared.Desk.{Desk}
 use Rattle.station.specs.declared.Station.{Station}
 use Rattle.station.specs.Serve.{at_start, served_of, Manned}
@@ -41,8 +40,9 @@ unfoldable pub program_of : Desk → Bool → List ℕ → Program
 program_of desk over input = let p = eaten_of input (opened desk) in if over then last_of p else p
 
 -- what a read brought, by its answer and what then stands in the array; nothing is the input's end
-unfoldable pub brought : ℤ → List ℕ → List ℕ
-brought got chunk = take (clamp_len got (length chunk)) chunk
+unfoldable pub brought : {E : Type 0} → Result ℕ E → List ℕ → List ℕ
+brought (Ok n) chunk = take n chunk
+brought (Err e) chunk = []
 
 abbrev pub nothing : List ℕ → Bool
 nothing bytes = eqb (length bytes) 0

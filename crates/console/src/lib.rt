@@ -8,6 +8,7 @@ ghost use Rattle.console.specs.Eaten.{eaten_of, ended_line, last_of, brought, en
 use basics::Put;
 use desk::Desk;
 use station::Station;
+use std::io::{self, Read, Stdin};
 
 // A station, how many bytes are kept of the line that isn't complete yet, and how many of the output are to be written.
 #[derive(Clone, Copy)]
@@ -132,30 +133,32 @@ fn take_in(s: Station, line: &mut [u8], kept: usize, bytes: &[u8], out: &mut [u8
     }
 }
 
-// A read's answer says how many bytes it left at the start of the chunk.
+// A read's answer says how many bytes it left at the start of the chunk; one that failed brought none.
 fn hand_on(
     s: Station,
     line: &mut [u8],
     kept: usize,
     chunk: &[u8],
-    got: isize,
+    got: io::Result<usize>,
     out: &mut [u8],
 ) -> Round
     requires sound { Sound (memory s kept line.old 0 out.old) }
     requires chunk_len { length chunk.now ≡ 2048 }
     ensures { Reads (brought got chunk.now) (memory s kept line.old 0 out.old) (memory result.station result.n line.new result.printed out.new) result.over }
 {
-    let m = io::count(got, chunk);
-    take_in(s, line, kept, &chunk[..m], out)
+    match got {
+        Ok(n) => take_in(s, line, kept, &chunk[..n.min(chunk.len())], out),
+        Err(_) => take_in(s, line, kept, &[], out),
+    }
 }
 
 // The next read.
-fn read_chunk(s: Station, line: &mut [u8], kept: usize, out: &mut [u8]) -> Round
+fn read_chunk(mut input: Stdin, s: Station, line: &mut [u8], kept: usize, out: &mut [u8]) -> Round
     requires { Sound (memory s kept line.old 0 out.old) }
     ensures { SomeRead (memory s kept line.old 0 out.old) (memory result.station result.n line.new result.printed out.new) result.over }
 {
     let mut chunk = [0u8; 2048];
-    let got = libc::read(0, &mut chunk);
+    let got = input.read(&mut chunk);
     hand_on(s, line, kept, &chunk, got, out)
 }
 
@@ -170,7 +173,7 @@ fn ends(over: bool, wrote: bool) -> bool
 }
 
 // "It reads lines .. from standard input. .. Address 1."
-pub fn serve(desk: Desk) -> End
+pub fn serve(rt: &HostRuntime, desk: Desk) -> End
     ensures { Ended desk result }
 {
     let mut s = Station::new(desk);
@@ -179,12 +182,12 @@ pub fn serve(desk: Desk) -> End
     let mut n = 0;
     let mut reads: u64 = 0;
     while reads < u64::MAX {
-        let r = read_chunk(s, &mut line, n, &mut out);
+        let r = read_chunk(rt.stdin(), s, &mut line, n, &mut out);
         s = r.station;
         n = r.n;
         let over = r.over;
         let printed = r.printed;
-        let wrote = io::write_all(1, &out[..printed]);
+        let wrote = rt.stdout().write_all(&out[..printed]).is_ok();
         let ending = ends(over, wrote);
         if ending {
             return End {

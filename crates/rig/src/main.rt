@@ -3,6 +3,6 @@
 
 use desk::Desk;
 
-fn main() {
-    console::serve(Desk::Rig);
+fn main(rt: HostRuntime) {
+    console::serve(&rt, Desk::Rig);
 }
