@@ -1,4 +1,4 @@
-// The controller for hosts in C and Rust: every call is lent the memory that the host keeps it in, and refuses memory that holds no controller. No function has a premise.
+// The controller for hosts in C and Rust: every call is lent the memory that the host keeps it in, and refuses memory that holds no controller. No function has a premise. host_c exports them to C.
 #![tactic(auto)]
 
 ghost use Rattle.std.specs.Prelude.{◌≡◌, ltb, length};
@@ -181,8 +181,7 @@ fn stopped(p: Pose) -> Pose
 }
 
 // A controller of a framing, 0 for DT and 1 for OEM, and of an address of 1 to 9.
-#[unsafe(no_mangle)]
-pub extern "C" fn pipettor_make(
+pub fn pipettor_make(
     framing: u32,
     number: u32,
     address: &mut [u8; 1],
@@ -269,8 +268,7 @@ fn ended(
 }
 
 // One byte received, with a buffer lent for the answer: 0, or how many bytes are answered. All but the end of a frame needs the receiver's numbers alone.
-#[unsafe(no_mangle)]
-pub extern "C" fn pipettor_byte(
+pub fn pipettor_byte(
     b: u8,
     address: &mut [u8; 1],
     line: &mut [u8; 4],
@@ -314,8 +312,7 @@ pub extern "C" fn pipettor_byte(
 }
 
 // Bytes up to one that completes a frame, which is left: how many were taken.
-#[unsafe(no_mangle)]
-pub extern "C" fn pipettor_listen(
+pub fn pipettor_listen(
     bytes: &[u8],
     line: &mut [u8; 4],
     count: &mut [u32; 1],
@@ -335,8 +332,7 @@ pub extern "C" fn pipettor_listen(
 }
 
 // A tick of 10 ms, with what the host senses.
-#[unsafe(no_mangle)]
-pub extern "C" fn pipettor_tick(
+pub fn pipettor_tick(
     tip: u8,
     reading: i32,
     wide: &mut [u64; 8],
@@ -363,8 +359,7 @@ pub extern "C" fn pipettor_tick(
 }
 
 // Exactly n ticks, ready or not.
-#[unsafe(no_mangle)]
-pub extern "C" fn pipettor_advance(
+pub fn pipettor_advance(
     n: u32,
     tip: u8,
     reading: i32,
@@ -388,8 +383,7 @@ pub extern "C" fn pipettor_advance(
 }
 
 // Up to n ticks, until ready: how many were used, and what they tell.
-#[unsafe(no_mangle)]
-pub extern "C" fn pipettor_run(
+pub fn pipettor_run(
     n: u32,
     tip: u8,
     reading: i32,
@@ -415,8 +409,7 @@ pub extern "C" fn pipettor_run(
 }
 
 // T, from the host.
-#[unsafe(no_mangle)]
-pub extern "C" fn pipettor_stop(
+pub fn pipettor_stop(
     wide: &mut [u64; 8],
     words: &mut [u32; 26],
     small: &mut [u8; 4],
@@ -434,8 +427,7 @@ pub extern "C" fn pipettor_stop(
 }
 
 // Where the plunger is, in increments.
-#[unsafe(no_mangle)]
-pub extern "C" fn pipettor_plunger(wide: &[u64; 8], words: &[u32; 26], small: &[u8; 4]) -> u64
+pub fn pipettor_plunger(wide: &[u64; 8], words: &[u32; 26], small: &[u8; 4]) -> u64
     ensures { result ≡ plunger_in wide.now words.now small.now }
 {
     let pose = image::pose_in(wide, words, small);
@@ -448,8 +440,7 @@ pub extern "C" fn pipettor_plunger(wide: &[u64; 8], words: &[u32; 26], small: &[
 }
 
 // The exact position, in millionths of an increment.
-#[unsafe(no_mangle)]
-pub extern "C" fn pipettor_exact(wide: &[u64; 8], words: &[u32; 26], small: &[u8; 4]) -> u64
+pub fn pipettor_exact(wide: &[u64; 8], words: &[u32; 26], small: &[u8; 4]) -> u64
     ensures { result ≡ exact_in wide.now words.now small.now }
 {
     let pose = image::pose_in(wide, words, small);
@@ -462,8 +453,7 @@ pub extern "C" fn pipettor_exact(wide: &[u64; 8], words: &[u32; 26], small: &[u8
 }
 
 // 1 where it is ready, 0 where not.
-#[unsafe(no_mangle)]
-pub extern "C" fn pipettor_ready(wide: &[u64; 8], words: &[u32; 26], small: &[u8; 4]) -> u64
+pub fn pipettor_ready(wide: &[u64; 8], words: &[u32; 26], small: &[u8; 4]) -> u64
     ensures { result ≡ ready_in wide.now words.now small.now }
 {
     let pose = image::pose_in(wide, words, small);
@@ -475,8 +465,7 @@ pub extern "C" fn pipettor_ready(wide: &[u64; 8], words: &[u32; 26], small: &[u8
 }
 
 // The number of the last error, 0 where there is none.
-#[unsafe(no_mangle)]
-pub extern "C" fn pipettor_error(wide: &[u64; 8], words: &[u32; 26], small: &[u8; 4]) -> u64
+pub fn pipettor_error(wide: &[u64; 8], words: &[u32; 26], small: &[u8; 4]) -> u64
     ensures { result ≡ error_in wide.now words.now small.now }
 {
     let pose = image::pose_in(wide, words, small);
@@ -489,8 +478,7 @@ pub extern "C" fn pipettor_error(wide: &[u64; 8], words: &[u32; 26], small: &[u8
 }
 
 // 0 where all of it is a controller from making and earlier calls, written just so.
-#[unsafe(no_mangle)]
-pub extern "C" fn pipettor_check(
+pub fn pipettor_check(
     address: &[u8; 1],
     line: &[u8; 4],
     count: &[u32; 1],
