@@ -1,4 +1,4 @@
-/* The proved pipettor controller, for C99 and C++. Link target/staticlib/libhost.a (`rt staticlib host`); x86-64, System V calls.
+/* The proved pipettor controller, for C99 and C++. Link target/staticlib/libhost.a (`hosts/library` builds it); x86-64, System V calls.
    Include this file anywhere; there is nothing to initialise but a `pipettor`, and nothing to free.
 
    Memory: one `pipettor` is one controller, 760 bytes, wherever you like (static, stack, heap, a copy by assignment). Its fields need
@@ -69,7 +69,7 @@ typedef struct pipettor {
 
 /* The library's own functions: the same calls with each field handed over by itself. The functions below this block are these with a
    pipettor's fields filled in. Arrays are pointers to their first element, at least so long, aligned for their type, and apart from
-   each other. They must say what crates/host/src/lib.rt says: no linker tells, hosts/declarations does. */
+   each other. They must say what crates/host_c/src/lib.rt says: no linker tells, hosts/declarations does. */
 #ifdef __cplusplus
 extern "C" {
 #endif

@@ -1,4 +1,4 @@
-//! Links libhost.a: from PIPETTOR_LIB, a folder, or else from where `rt staticlib host` writes it.
+//! Links libhost.a: from PIPETTOR_LIB, a folder, or else from where `hosts/library` writes it.
 use std::env;
 use std::path::{Path, PathBuf};
 

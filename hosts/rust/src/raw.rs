@@ -1,4 +1,4 @@
-//! The library's functions. They must say what `crates/host/src/lib.rt` says: no linker tells, `hosts/declarations` does. All `unsafe` of
+//! The library's functions. They must say what `crates/host_c/src/lib.rt` says: no linker tells, `hosts/declarations` does. All `unsafe` of
 //! this crate is here: each call lends fields of one `Image`, which are apart from each other and live as long as the call, and slices
 //! with their own lengths. Whatever the fields hold, the library returns.
 use crate::image::Image;
