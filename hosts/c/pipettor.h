@@ -3,7 +3,7 @@
 
    Memory: one `pipettor` is one controller, 760 bytes, wherever you like (static, stack, heap, a copy by assignment). Its fields need
    the alignment that the compiler gives them. No call allocates, blocks, keeps a pointer, or touches anything but what is handed to it.
-   Stack: under 2,700 bytes. Of the C library memcpy and memset are called.
+   Stack: under 3,600 bytes. Of the C library memcpy and memset are called.
    Threads: calls on different pipettors don't meet. Calls on the same one must not overlap, interrupts included.
    Overlap: the answer buffer and the bytes for pip_listen must lie outside the pipettor.
 
