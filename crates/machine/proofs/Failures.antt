@@ -301,16 +301,16 @@ module _ (text : List ℕ) (x : Sense) (c : Core) where
   a_run_fails_for_a_cause a s o h = running_fails a s o (subst (λ (y : State). (active_of y (around text x) c).next.core.course.state ≡ Empty) s h)
 
 -- and the other way: where there is a cause the tick fails, with that refusal
-pub must-fail : (x : Sense) (k : Command) (b : Body) (why : Refusal) → Failing x k b why → (effect_of x k b).next ≡ Fails why b
+pub must_fail : (x : Sense) (k : Command) (b : Body) (why : Refusal) → Failing x k b why → (effect_of x k b).next ≡ Fails why b
 unfolding effect_of move_of aimed eject_of detect_of zeroed_of
-must-fail x k b why (uninitialised way v e i) = rw (e, i)
-must-fail x k b why (steep way v e i s) = rw (e, i, lt-ltb b.settings.top b.settings.start s)
-must-fail x k b why (outside way v e i flat out) = rw (e, i, le-ltb b.settings.top b.settings.start flat, out)
-must-fail x k b why (tipless e t) = rw (e, t)
-must-fail x k b why (unready e i) = rw (e, i)
-must-fail x k b why (unknown here e i) = rw (e, i)
-must-fail x k b why (no_way here e i n) = rw (e, i, n)
-must-fail x k b why (no_zero here e i n f) = rw (e, i, n, f)
+must_fail x k b why (uninitialised way v e i) = rw (e, i)
+must_fail x k b why (steep way v e i s) = rw (e, i, lt-ltb b.settings.top b.settings.start s)
+must_fail x k b why (outside way v e i flat out) = rw (e, i, le-ltb b.settings.top b.settings.start flat, out)
+must_fail x k b why (tipless e t) = rw (e, t)
+must_fail x k b why (unready e i) = rw (e, i)
+must_fail x k b why (unknown here e i) = rw (e, i)
+must_fail x k b why (no_way here e i n) = rw (e, i, n)
+must_fail x k b why (no_zero here e i n f) = rw (e, i, n, f)
 
 must_break : (x : Sense) (a : Activity) (b : Body) (why : Refusal) → Breaking x b a why → ((onward_of x a b).next ≡ Fails why (left_by a b)) × (between a ≡ false)
 unfolding onward_of ejected_of approached_of searched_of sought_of found_as
@@ -321,7 +321,7 @@ must_break x a b why (no_liquid s f) = (rw f, refl)
 
 pub where_there_is_a_cause_the_run_fails :
     (text : List ℕ) (x : Sense) (c : Core) (why : Refusal) → Cause text x c why → (step_of (around text x) c).next ≡ fails why (left_in c.course.state c.body) c.course
-where_there_is_a_cause_the_run_fails text x c why (taken k t w) = step_fails text x c why k t (must-fail x k c.body why w)
+where_there_is_a_cause_the_run_fails text x c why (taken k t w) = step_fails text x c why k t (must_fail x k c.body why w)
 where_there_is_a_cause_the_run_fails text x c why (judged a s w) = let (e, n) = must_break x a c.body why w in step_breaks text x c why a s n e
 
 -- a tick tells of a failure exactly where there is a cause

@@ -4,12 +4,15 @@ use Rattle.pipettor.proofs.Returning.{short_returns}
 use Rattle.pipettor.proofs.lent.Parts.byte.Statement.{statement}
 use Rattle.pipettor.proofs.lent.Parts.byte.Tie as tie
 
--- What lies behind a call that returns a record of many fields is named: `search` enters 128 of them.
+-- What lies behind a call that returns a record of many fields is named: `search` enters 128 of them. The test of the buffer is reached by its place, since its name holds its number.
 answers : tie.Need-returns
 answers c =
+    let done = c.before.before.before.before.before.before.before.before in
+    let got = done.before.before.before.before.before.before in
+    let tested = got.before.before.before.before.before.before.before in
     record {
       is =
-          heard _ _ _ _ _ _ _ _ _ _ _ _ _ _ _ _ _ (search c.if-buf-lt32.false) c.letter.ensures c.hear-heard.ensures c.keep.ensures c.get-got.ensures
+          heard _ _ _ _ _ _ _ _ _ _ _ _ _ _ _ _ _ (search tested) c.letter.ensures c.hear-heard.ensures c.keep.ensures c.get-got.ensures
           c.task-task.ensures c.size-n.ensures c.perform-done.ensures.is c.outcome-outcome.ensures (search c.ready.ensures) c.framing.ensures c.say-said.ensures;
       again = record { core = c.perform-done.ensures.again };
     }
