@@ -49,7 +49,7 @@ use Rattle.machine.specs.Step.{Around, around, both_of, stepped, fine, applies, 
 use Rattle.machine.specs.Run.{ready_of, ticks_of, used_of}
 use Rattle.machine.specs.OnCourse.{Takes, Failing}
 use Rattle.machine.specs.Tips.{Ejects, AskedIn, AtEject, next_is_one, in_progress, other_than_e, NoE}
-use Rattle.machine.proofs.Failures.{effect_fails, must-fail, step_takes}
+use Rattle.machine.proofs.Failures.{effect_fails, must_fail, step_takes}
 use Rattle.machine.proofs.Ways.{step_by}
 
 -- which effect asks
@@ -122,7 +122,7 @@ module _ (text : List ℕ) (x : Sense) (c : Core) where
   asks_now = (step_of (around text x) c).next.news.eject
 
   granted_by : (bare : Bool) → asks_of (effect_of x (C.Eject bare) c.body).next ≡ true → (why : Refusal) → Failing x (C.Eject bare) c.body why → ⊥
-  granted_by bare e why f = true≢false (sym e ∙ ap asks_of (must-fail x (C.Eject bare) c.body why f))
+  granted_by bare e why f = true≢false (sym e ∙ ap asks_of (must_fail x (C.Eject bare) c.body why f))
 
   taken_ejects : (f : Found) → command_at (take c.course.len text) c.course.at ≡ f → c.course.state ≡ Running Between → (taken_of x f c).next.news.eject ≡ true → Ejects text x c
   unfolding taken_of
