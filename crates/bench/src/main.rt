@@ -4,5 +4,5 @@
 use desk::Desk;
 
 fn main(rt: HostRuntime) {
-    console::serve(&rt, Desk::Bench);
+    console::serve(Desk::Bench, &mut rt.stdin(), &mut rt.stdout());
 }

@@ -4,18 +4,20 @@ use mathlib.Core.Bool.{Bool, true, false, ◌||◌}
 use mathlib.Core.List.{List, [], ◌∷◌, ◌++◌, append-nil, append_assoc}
 use Prim.Native.Nat.{ℕ, ◌+◌, ◌≤◌}
 use native.Mathlib.Omega.{arith}
-use borrow.Author.Tests.{ne_eqb, eqb-false, le-leb}
+use borrow.Author.Tests.{ne_eqb, eqb-true, eqb-false, le-leb}
 use lib.Dec.{eqb, leb, ltb}
-use lib.ListN.{length, take, length-append}
-use Rattle.std.proofs.Common.{min, Result, Ok, Err}
+use lib.ListN.{length, take, length-append, length-take}
+use Rattle.std.proofs.Common.{◌<◌, min, Option, Some, None, Result, Ok, Err, is_ok, OnOk, IfSome}
 use Rattle.std.proofs.lemmas.List.{take_min}
+use Rattle.std.specs.Io.KnownBytes.{Keeps as KeepsBytes, Appends, Consumes, IsAtEnd, ReadConsumes}
 use Rattle.std.specs.Prelude.{if◌then◌else◌}
 use Rattle.basics.proofs.Lists.{front_counted}
 use Rattle.basics.proofs.Rules.{by_order}
 use Rattle.desk.specs.declared.Desk.{Desk}
 use Rattle.station.specs.declared.Station.{Station}
+use Rattle.console.specs.declared.End.{End}
 use Rattle.station.specs.Serve.{served_of, Starts}
-use Rattle.console.specs.Eaten.{Program, program, longer, ended_line, eaten_of, last_of, opened, program_of, brought, nothing, read_of, Keeps, Memory, memory, Sound, Stands, Eats, Finishes, Reads, SomeRead, ends, Ended}
+use Rattle.console.specs.Eaten.{Program, program, longer, ended_line, eaten_of, last_of, opened, program_of, brought, nothing, read_of, Keeps, Memory, memory, Sound, Stands, Eats, Finishes, Reads, SomeRead, ends, Ended, Succeeded}
 
 -- Input in any chunks does what it does at once.
 pub in_any_chunks : (xs ys : List ℕ) (s : Program) → eaten_of (xs ++ ys) s ≡ eaten_of ys (eaten_of xs s)
@@ -86,33 +88,103 @@ module _ {E : Type 0} (got : Result ℕ E) (chunk : List ℕ) (a b : Memory) (ov
   unfolding brought
   brought_none e o r = rw o r
 
--- the program before each read: it has eaten some input, and written what that prints
-pub record Served (desk : Desk) (k : Station) (n : ℕ) (line out : List ℕ) (reads : ℕ) : Type 0 where
+-- known bytes, taken from and added to in turn
+consumes_none : (a b : Option (List ℕ)) → KeepsBytes a b → Consumes a b []
+consumes_none None b h = tt
+consumes_none (Some xs) None h = h
+consumes_none (Some xs) (Some ys) h = sym h
+
+consumes_more : (a b c : Option (List ℕ)) (xs ys : List ℕ) → Consumes a b xs → Consumes b c ys → Consumes a c (xs ++ ys)
+consumes_more None b c xs ys h k = tt
+consumes_more (Some u) None c xs ys h k = absurd h
+consumes_more (Some u) (Some v) None xs ys h k = k
+consumes_more (Some u) (Some v) (Some w) xs ys h k = h ∙ ap (λ (t : List ℕ). xs ++ t) k ∙ sym (append_assoc xs ys w)
+
+appends_more : (a b c : Option (List ℕ)) (xs ys : List ℕ) → Appends a b xs → Appends b c ys → Appends a c (xs ++ ys)
+appends_more None b c xs ys h k = tt
+appends_more (Some u) None c xs ys h k = absurd h
+appends_more (Some u) (Some v) None xs ys h k = k
+appends_more (Some u) (Some v) (Some w) xs ys h k = k ∙ ap (λ (t : List ℕ). t ++ ys) h ∙ append_assoc u xs ys
+
+keeps_itself : (a : Option (List ℕ)) → KeepsBytes a a
+keeps_itself None = tt
+keeps_itself (Some xs) = refl
+
+appends_none : (a : Option (List ℕ)) → Appends a a []
+appends_none None = tt
+appends_none (Some xs) = sym (append-nil xs)
+
+-- a read's answer, and what the reader has left
+pub some_read :
+    {E : Type 0} (got : Result ℕ E) (chunk : List ℕ) (rest rest' : Option (List ℕ)) (a b : Memory) (over read : Bool) → 0 < length chunk → ReadConsumes rest rest' got chunk →
+    Reads (brought got chunk) a b over → read ≡ is_ok got → SomeRead rest rest' a b over read
+unfolding brought
+some_read (Ok n) chunk rest rest' a b over read w h r e = record {
+  bytes = take n chunk;
+  reads = r;
+  consumed = h.0;
+  whole = λ o q. h.1 (none_asked (sym r.last ∙ o)) w;
+}
+  where
+    none_asked : nothing (take n chunk) ≡ true → n ≡ 0
+    none_asked q = let z : length (take n chunk) ≡ 0 = eqb-true (length (take n chunk)) 0 q in let l = length-take n chunk in omega arith
+some_read (Err x) chunk rest rest' a b over read w h r e = record {
+  bytes = [];
+  reads = r;
+  consumed = consumes_none rest rest' h;
+  whole = λ o q. absurd (failed (sym e ∙ q));
+}
+  where
+    failed : false ≡ true → ⊥
+    failed q = cc
+
+-- what is known of an answer that is good
+pub where_ok : {X E : Type 0} (r : Result X E) (P : Type 0) (b : Bool) → b ≡ is_ok r → OnOk r P → b ≡ true → P
+where_ok (Ok x) P b e h q = h
+where_ok (Err x) P b e h q = let f : false ≡ true = sym e ∙ q in cc
+
+-- the program before each read: it has eaten some input, which was read, and written what that prints
+pub record Served (desk : Desk) (rest rest' held held' : Option (List ℕ)) (k : Station) (n : ℕ) (line out : List ℕ) (reads : ℕ) : Type 0 where
   pub sound : Sound (memory k n line 0 out)
   pub input : List ℕ
   pub counted : reads ≤ length input
   pub stands : Stands (written (eaten_of input (opened desk))) (memory k n line 0 out)
+  pub consumed : Consumes rest rest' input
+  pub added : Appends held held' (eaten_of input (opened desk)).printed
 
 same_desk : (desk : Desk) (k : Station) → Starts desk k → k.desk ≡ desk
 same_desk desk k s = ap (λ (x : Station). x.desk) s.is
 
-opens_so : (desk : Desk) (k : Station) (line out : List ℕ) → Starts desk k → length line ≡ 401 → length out ≡ 196608 → Served desk k 0 line out 0
+opens_so : (desk : Desk) (rest held : Option (List ℕ)) (k : Station) (line out : List ℕ) → Starts desk k → length line ≡ 401 → length out ≡ 196608 → Served desk rest rest held held k 0 line out 0
 unfolding eaten_of
-opens_so desk k line out s w v = record {
+opens_so desk rest held k line out s w v = record {
   sound = record { manned = s.manned; long = w; within = omega arith; size = v; filled = omega arith };
   input = [];
   counted = omega arith;
   stands = record { station = s.is; keeps = record { count = refl; bytes = λ h. refl }; printed = refl };
+  consumed = consumes_none rest rest (keeps_itself rest);
+  added = appends_none held;
 }
 
-pub opens : (desk : Desk) (k : Station) (line out : List ℕ) → Starts desk k → length line ≡ 401 → length out ≡ 196608 → Served k.desk k 0 line out 0
-opens desk k line out s w v = subst (λ (d : Desk). Served d k 0 line out 0) (sym (same_desk desk k s)) (opens_so desk k line out s w v)
+pub opens : (desk : Desk) (rest held : Option (List ℕ)) (k : Station) (line out : List ℕ) → Starts desk k → length line ≡ 401 → length out ≡ 196608 → Served k.desk rest rest held held k 0 line out 0
+opens desk rest held k line out s w v = subst (λ (d : Desk). Served d rest rest held held k 0 line out 0) (sym (same_desk desk k s)) (opens_so desk rest held k line out s w v)
 
 not_over : (over wrote : Bool) → ends over wrote ≡ false → over ≡ false
 not_over true wrote e = e
 not_over false wrote e = refl
 
-module _ (desk : Desk) (c k : Station) (n j p : ℕ) (line out line' out' : List ℕ) (over : Bool) (reads : ℕ) (s : Served desk c n line out reads) (x : SomeRead (memory c n line 0 out) (memory k j line' p out') over) where
+all_written : (over wrote : Bool) → ends over wrote ≡ false → wrote ≡ true
+all_written true wrote e = let f : true ≡ false = e in cc
+all_written false true e = refl
+all_written false false e = let f : true ≡ false = e in cc
+
+not_written : (wrote : Bool) → ends false wrote ≡ true → wrote ≡ true → ⊥
+not_written true e q = let f : false ≡ true = e in cc
+not_written false e q = cc
+
+module _
+    (desk : Desk) (rest rest' rest″ held held' held″ : Option (List ℕ)) (c k : Station) (n j p : ℕ) (line out line' out' : List ℕ) (over read : Bool) (reads : ℕ)
+    (s : Served desk rest rest' held held' c n line out reads) (x : SomeRead rest' rest″ (memory c n line 0 out) (memory k j line' p out') over read) where
   -- the bench program after the read
   now_stands : Stands (read_of x.bytes (written (eaten_of s.input (opened desk)))) (memory k j line' p out')
   now_stands = x.reads.eats.stands (written (eaten_of s.input (opened desk))) s.stands
@@ -137,15 +209,23 @@ module _ (desk : Desk) (c k : Station) (n j p : ℕ) (line out line' out' : List
       let h = s.counted in
       omega arith
 
-  pub goes_on : (wrote ending : Bool) → ending ≡ ends over wrote → ending ≡ false → Served desk k j line' out' (reads + 1)
-  goes_on wrote ending g e = let o = not_over over wrote (sym g ∙ e) in let u = eaten_more o in record {
+  more_consumed : Consumes rest rest″ (s.input ++ x.bytes)
+  more_consumed = consumes_more rest rest' rest″ s.input x.bytes s.consumed x.consumed
+
+  more_added : Appends held' held″ (take p out') → Appends held held″ ((eaten_of s.input (opened desk)).printed ++ take p out')
+  more_added w = appends_more held held' held″ (eaten_of s.input (opened desk)).printed (take p out') s.added w
+
+  pub goes_on : (wrote ending : Bool) → (wrote ≡ true → Appends held' held″ (take p out')) → ending ≡ ends over wrote → ending ≡ false → Served desk rest rest″ held held″ k j line' out' (reads + 1)
+  goes_on wrote ending w g e = let o = not_over over wrote (sym g ∙ e) in let u = eaten_more o in record {
     sound = let a = x.reads.eats.sound in record { manned = a.manned; long = a.long; within = a.within; size = a.size; filled = omega arith };
     input = s.input ++ x.bytes;
     counted = one_more o;
     stands = rw more_input (record { station = u.station; keeps = u.keeps; printed = refl });
+    consumed = more_consumed;
+    added = rw more_input (rw u.printed at (more_added (w (all_written over wrote (sym g ∙ e)))));
   }
 
-  -- the station at the program's end
+  -- the station at the program's end, and what it prints there
   last_station : (t : Program) → (last_of (written t)).station ≡ (last_of t).station
   last_station t = go (ltb 0 (length t.kept))
     where
@@ -153,28 +233,98 @@ module _ (desk : Desk) (c k : Station) (n j p : ℕ) (line out line' out' : List
       go true = refl
       go false = refl
 
-  ends_so : (wrote ending : Bool) → ending ≡ ends over wrote → ending ≡ true → Ended desk (record { station = k; over = over; wrote = wrote; reads = reads })
-  unfolding program_of read_of
-  ends_so wrote ending g e = go over refl
+  last_printed : (t : Program) → t.printed ++ (last_of (written t)).printed ≡ (last_of t).printed
+  last_printed t = go (ltb 0 (length t.kept))
+    where
+      go : (b : Bool) → t.printed ++ (ended_line b (written t)).printed ≡ (ended_line b t).printed
+      go true = refl
+      go false = append-nil t.printed
+
+  none_brought : over ≡ true → x.bytes ≡ []
+  none_brought o = no_bytes x.bytes (eqb-true (length x.bytes) 0 (sym x.reads.last ∙ o))
+    where
+      no_bytes : (bytes : List ℕ) → length bytes ≡ 0 → bytes ≡ []
+      no_bytes [] h = refl
+      no_bytes (b ∷ t) h = absurd (omega arith)
+
+  at_the_end : over ≡ true → Stands (last_of (written (eaten_of s.input (opened desk)))) (memory k j line' p out')
+  unfolding read_of
+  at_the_end o = rw (sym x.reads.last ∙ o) at now_stands
+
+  all_consumed : over ≡ true → Consumes rest rest″ s.input
+  all_consumed o = rw (none_brought o, append-nil) at more_consumed
+
+  all_added : over ≡ true → Appends held' held″ (take p out') → Appends held held″ (last_of (eaten_of s.input (opened desk))).printed
+  all_added o w = rw ((at_the_end o).printed, last_printed (eaten_of s.input (opened desk))) at (more_added w)
+
+  ends_so :
+      (wrote ending : Bool) → (wrote ≡ true → Appends held' held″ (take p out')) → ending ≡ ends over wrote → ending ≡ true →
+      Ended desk rest rest″ held held″ (record { station = k; over = over; read = read; wrote = wrote; reads = reads })
+  unfolding program_of
+  ends_so wrote ending w g e = go over refl
     where
       why : (ends over wrote || leb 18446744073709551615 reads) ≡ true
       why = rw (sym g ∙ e)
 
-      go : (b : Bool) → over ≡ b → Ended desk (record { station = k; over = over; wrote = wrote; reads = reads })
-      go true o = record { input = s.input; station = rw o ((rw (sym x.reads.last ∙ o) at now_stands).station ∙ last_station (eaten_of s.input (opened desk))); reads = s.counted; reason = why }
-      go false o = record { input = s.input ++ x.bytes; station = rw (o, more_input) (eaten_more o).station; reads = let h = one_more o in omega arith; reason = why }
+      go : (b : Bool) → over ≡ b → Ended desk rest rest″ held held″ (record { station = k; over = over; read = read; wrote = wrote; reads = reads })
+      go true o = record {
+        input = s.input;
+        station = rw o ((at_the_end o).station ∙ last_station (eaten_of s.input (opened desk)));
+        reads = s.counted;
+        reason = why;
+        consumed = all_consumed o;
+        whole = x.whole;
+        written = λ q. rw o (all_added o (w q));
+      }
+      go false o = record {
+        input = s.input ++ x.bytes;
+        station = rw (o, more_input) (eaten_more o).station;
+        reads = let h = one_more o in omega arith;
+        reason = why;
+        consumed = more_consumed;
+        whole = λ q. let f : false ≡ true = sym o ∙ q in cc;
+        written = λ q. absurd (not_written wrote (rw o at (sym g ∙ e)) q);
+      }
 
 -- no more reads are made
-stops_so : (desk : Desk) (k : Station) (n : ℕ) (line out : List ℕ) (reads : ℕ) → Served desk k n line out reads → 18446744073709551615 ≤ reads → Ended desk (record { station = k; over = false; wrote = true; reads = reads })
+stops_so :
+    (desk : Desk) (rest rest' held held' : Option (List ℕ)) (k : Station) (n : ℕ) (line out : List ℕ) (reads : ℕ) → Served desk rest rest' held held' k n line out reads → 18446744073709551615 ≤ reads →
+    Ended desk rest rest' held held' (record { station = k; over = false; read = true; wrote = true; reads = reads })
 unfolding program_of
-stops_so desk k n line out reads s h = record { input = s.input; station = s.stands.station; reads = s.counted; reason = le-leb 18446744073709551615 reads h }
+stops_so desk rest rest' held held' k n line out reads s h = record {
+  input = s.input;
+  station = s.stands.station;
+  reads = s.counted;
+  reason = le-leb 18446744073709551615 reads h;
+  consumed = s.consumed;
+  whole = λ q. let f : false ≡ true = q in cc;
+  written = λ q. s.added;
+}
 
 -- the program's desk is that of the station it began with
 module _ (desk : Desk) (first : Station) (b : Starts desk first) where
   pub ended :
-      (c k : Station) (n j p : ℕ) (line out line' out' : List ℕ) (over : Bool) (reads : ℕ) → Served first.desk c n line out reads → SomeRead (memory c n line 0 out) (memory k j line' p out') over →
-      (wrote ending : Bool) → ending ≡ ends over wrote → ending ≡ true → Ended desk (record { station = k; over = over; wrote = wrote; reads = reads })
-  ended c k n j p line out line' out' over reads s x wrote ending g e = rw (same_desk desk first b) at (ends_so first.desk c k n j p line out line' out' over reads s x wrote ending g e)
+      (rest rest' rest″ held held' held″ : Option (List ℕ)) (c k : Station) (n j p : ℕ) (line out line' out' : List ℕ) (over read : Bool) (reads : ℕ) →
+      Served first.desk rest rest' held held' c n line out reads → SomeRead rest' rest″ (memory c n line 0 out) (memory k j line' p out') over read → (wrote ending : Bool) →
+      (wrote ≡ true → Appends held' held″ (take p out')) → ending ≡ ends over wrote → ending ≡ true →
+      Ended desk rest rest″ held held″ (record { station = k; over = over; read = read; wrote = wrote; reads = reads })
+  ended rest rest' rest″ held held' held″ c k n j p line out line' out' over read reads s x wrote ending w g e =
+      rw (same_desk desk first b) at (ends_so first.desk rest rest' rest″ held held' held″ c k n j p line out line' out' over read reads s x wrote ending w g e)
 
-  pub no_more_reads : (k : Station) (n : ℕ) (line out : List ℕ) (reads : ℕ) → Served first.desk k n line out reads → 18446744073709551615 ≤ reads → Ended desk (record { station = k; over = false; wrote = true; reads = reads })
-  no_more_reads k n line out reads s h = rw (same_desk desk first b) at (stops_so first.desk k n line out reads s h)
+  pub no_more_reads :
+      (rest rest' held held' : Option (List ℕ)) (k : Station) (n : ℕ) (line out : List ℕ) (reads : ℕ) → Served first.desk rest rest' held held' k n line out reads → 18446744073709551615 ≤ reads →
+      Ended desk rest rest' held held' (record { station = k; over = false; read = true; wrote = true; reads = reads })
+  no_more_reads rest rest' held held' k n line out reads s h = rw (same_desk desk first b) at (stops_so first.desk rest rest' held held' k n line out reads s h)
+
+-- "It reads lines .. It prints": all of the reader's bytes, and what they print
+pub whole_program :
+    (desk : Desk) (rest rest' held held' : Option (List ℕ)) (r : End) → Ended desk rest rest' held held' r → Succeeded r → IfSome rest (λ bytes. Appends held held' (program_of desk true bytes).printed)
+whole_program desk None rest' held held' r e s = tt
+whole_program desk (Some bytes) rest' held held' r e s = go rest' e.consumed (e.whole s.over s.read)
+  where
+    all_read : (xs : List ℕ) → xs ≡ [] → bytes ≡ e.input ++ xs → e.input ≡ bytes
+    all_read xs z q = sym (q ∙ ap (λ (t : List ℕ). e.input ++ t) z ∙ append-nil e.input)
+
+    go : (o : Option (List ℕ)) → Consumes (Some bytes) o e.input → IsAtEnd o → Appends held held' (program_of desk true bytes).printed
+    go None q z = absurd q
+    go (Some xs) q z = rw (s.over, all_read xs z q) at (e.written s.wrote)

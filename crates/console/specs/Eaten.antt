@@ -1,5 +1,6 @@
 -- 01, "The bench program": "It reads lines, ended by LF or the input's end"; the rig too. What the bytes of the input do and print, how the program keeps them, and what it comes to.
-use Rattle.std.specs.Prelude.{ℕ, ◌+◌, ◌*◌, ◌≤◌, min, ◌≡◌, Bool, true, not, ◌||◌, List, [], ◌∷◌, ◌++◌, eqb, leb, ltb, Result, Ok, Err, length, take, if◌then◌else◌}
+use Rattle.std.specs.Prelude.{ℕ, ◌+◌, ◌*◌, ◌≤◌, min, ◌≡◌, Bool, true, not, ◌||◌, List, [], ◌∷◌, ◌++◌, eqb, leb, ltb, Option, Result, Ok, Err, length, take, if◌then◌else◌}
+use Rattle.std.specs.Io.KnownBytes.{Appends, Consumes, IsAtEnd}
 use Rattle.desk.specs.declared.Desk.{Desk}
 use Rattle.station.specs.declared.Station.{Station}
 use Rattle.station.specs.Serve.{at_start, served_of, Manned}
@@ -102,18 +103,29 @@ pub record Reads (bytes : List ℕ) (a b : Memory) (over : Bool) : Type 0 where
   pub eats : Eats (read_of bytes) a b
   pub last : over ≡ nothing bytes
 
--- no contract can say which bytes a read brings
-pub record SomeRead (a b : Memory) (over : Bool) : Type 0 where
+-- the next read: what it brings is what the reader had next, where that is known; one that goes well brings nothing only where nothing is left
+pub record SomeRead (rest rest' : Option (List ℕ)) (a b : Memory) (over read : Bool) : Type 0 where
   pub bytes : List ℕ
   pub reads : Reads bytes a b over
+  pub consumed : Consumes rest rest' bytes
+  pub whole : over ≡ true → read ≡ true → IsAtEnd rest'
 
 -- it ends with its input, or where a write has failed
 abbrev pub ends : Bool → Bool → Bool
 ends over wrote = over || not wrote
 
--- the program has ended, for that reason or after 2^64 - 1 reads, each of which brought a byte at least
-pub record Ended (desk : Desk) (r : End) : Type 0 where
+-- the program has ended, for that reason or after 2^64 - 1 reads, each of which brought a byte at least; the bytes that the reader has left and those that the writer holds, before and after, where they are known
+pub record Ended (desk : Desk) (rest rest' held held' : Option (List ℕ)) (r : End) : Type 0 where
   pub input : List ℕ
   pub station : r.station ≡ (program_of desk r.over input).station
   pub reads : r.reads ≤ length input
   pub reason : (ends r.over r.wrote || leb 18446744073709551615 r.reads) ≡ true
+  pub consumed : Consumes rest rest' input
+  pub whole : r.over ≡ true → r.read ≡ true → IsAtEnd rest'
+  pub written : r.wrote ≡ true → Appends held held' (program_of desk r.over input).printed
+
+-- the whole input was read, and all that it prints was written
+pub record Succeeded (r : End) : Type 0 where
+  pub over : r.over ≡ true
+  pub read : r.read ≡ true
+  pub wrote : r.wrote ≡ true

@@ -1,14 +1,15 @@
-// The bench program and the rig: lines in, lines out, after each read. From a read's answer to the bytes that are to be written all is proved, and that the program starts with address 1 and ends with its input or a failed write.
-// Two calls stay outside: that `read_chunk` hands on the chunk and the answer of `read` from descriptor 0, and that `serve` writes the bytes laid down to descriptor 1 and goes by the answer. No contract can say what is read or written.
+// The bench program and the rig: lines in, lines out, after each read. From the reader's bytes to the writer's all is proved: where neither fails, the writer has got what the program prints for all that the reader had.
+// What stays outside is the two standard streams: no contract can say which bytes a system gives or takes.
 #![tactic(auto)]
 
-ghost use Rattle.std.specs.Prelude.{◌≡◌, ◌+◌, ◌-◌, ◌*◌, ◌≤◌, length, take, drop};
-ghost use Rattle.console.specs.Eaten.{eaten_of, ended_line, last_of, brought, ends as Eaten·ends, memory, Gathers, Sound, Eats, Finishes, Reads, SomeRead, Ended};
+ghost use Rattle.std.specs.Prelude.{◌≡◌, ◌+◌, ◌-◌, ◌*◌, ◌≤◌, true, length, take, drop, is_ok, OnOk, IfSome};
+ghost use Rattle.std.specs.Io.KnownBytes.{Appends};
+ghost use Rattle.console.specs.Eaten.{eaten_of, ended_line, last_of, program_of, brought, ends as Eaten·ends, memory, Gathers, Sound, Eats, Finishes, Reads, SomeRead, Ended, Succeeded};
 
 use basics::Put;
 use desk::Desk;
 use station::Station;
-use std::io::{self, Read, Stdin};
+use std::io::{self, Read, Write};
 
 // A station, how many bytes are kept of the line that isn't complete yet, and how many of the output are to be written.
 #[derive(Clone, Copy)]
@@ -18,20 +19,22 @@ pub struct Eaten {
     pub printed: usize,
 }
 
-// The same after a read, and whether the input is over.
+// The same after a read, whether the input is over, and whether the read went well.
 #[derive(Clone, Copy)]
 pub struct Round {
     pub station: Station,
     pub n: usize,
     pub printed: usize,
     pub over: bool,
+    pub read: bool,
 }
 
-// How the program ended: its station, whether the input was over, whether the last write took all, and how many reads came before the last.
+// How the program ended: its station, whether the input was over, whether the last read went well, whether the last write took all, and how many reads came before the last.
 #[derive(Clone, Copy)]
 pub struct End {
     pub station: Station,
     pub over: bool,
+    pub read: bool,
     pub wrote: bool,
     pub reads: u64,
 }
@@ -111,7 +114,8 @@ fn last_line(s: Station, line: &[u8], kept: usize, out: &mut [u8]) -> Eaten
 fn take_in(s: Station, line: &mut [u8], kept: usize, bytes: &[u8], out: &mut [u8]) -> Round
     requires sound { Sound (memory s kept line.old 0 out.old) }
     requires bytes_len_bound { length bytes.now ≤ 2048 }
-    ensures { Reads bytes.now (memory s kept line.old 0 out.old) (memory result.station result.n line.new result.printed out.new) result.over }
+    ensures reads { Reads bytes.now (memory s kept line.old 0 out.old) (memory result.station result.n line.new result.printed out.new) result.over }
+    ensures read { result.read ≡ true }
 {
     if bytes.len() == 0 {
         let e = last_line(s, line, kept, out);
@@ -121,6 +125,7 @@ fn take_in(s: Station, line: &mut [u8], kept: usize, bytes: &[u8], out: &mut [u8
             n: e.n,
             printed: e.printed,
             over: true,
+            read: true,
         };
     }
     let e = eat(s, line, kept, bytes, out);
@@ -130,6 +135,7 @@ fn take_in(s: Station, line: &mut [u8], kept: usize, bytes: &[u8], out: &mut [u8
         n: e.n,
         printed: e.printed,
         over: false,
+        read: true,
     }
 }
 
@@ -144,22 +150,40 @@ fn hand_on(
 ) -> Round
     requires sound { Sound (memory s kept line.old 0 out.old) }
     requires chunk_len { length chunk.now ≡ 2048 }
-    ensures { Reads (brought got chunk.now) (memory s kept line.old 0 out.old) (memory result.station result.n line.new result.printed out.new) result.over }
+    ensures reads { Reads (brought got chunk.now) (memory s kept line.old 0 out.old) (memory result.station result.n line.new result.printed out.new) result.over }
+    ensures read { result.read ≡ is_ok got }
 {
     match got {
         Ok(n) => take_in(s, line, kept, &chunk[..n.min(chunk.len())], out),
-        Err(_) => take_in(s, line, kept, &[], out),
+        Err(_) => {
+            let r = take_in(s, line, kept, &[], out);
+            Round { read: false, ..r }
+        }
     }
 }
 
 // The next read.
-fn read_chunk(mut input: Stdin, s: Station, line: &mut [u8], kept: usize, out: &mut [u8]) -> Round
+fn read_chunk<R: Read>(
+    input: &mut R,
+    s: Station,
+    line: &mut [u8],
+    kept: usize,
+    out: &mut [u8],
+) -> Round
     requires { Sound (memory s kept line.old 0 out.old) }
-    ensures { SomeRead (memory s kept line.old 0 out.old) (memory result.station result.n line.new result.printed out.new) result.over }
+    ensures { SomeRead (R.remaining input.old) (R.remaining input.new) (memory s kept line.old 0 out.old) (memory result.station result.n line.new result.printed out.new) result.over result.read }
 {
     let mut chunk = [0u8; 2048];
     let got = input.read(&mut chunk);
     hand_on(s, line, kept, &chunk, got, out)
+}
+
+// What a read has led to is written at once.
+fn write_out<W: Write>(output: &mut W, bytes: &[u8]) -> io::Result<()>
+    ensures { OnOk result (Appends (W.contents output.old) (W.contents output.new) bytes.now) }
+{
+    output.write_all(bytes)?;
+    output.flush()
 }
 
 // The program ends with its input, or where a write fails.
@@ -173,8 +197,9 @@ fn ends(over: bool, wrote: bool) -> bool
 }
 
 // "It reads lines .. from standard input. .. Address 1."
-pub fn serve(rt: &HostRuntime, desk: Desk) -> End
-    ensures { Ended desk result }
+pub fn serve<R: Read, W: Write>(desk: Desk, input: &mut R, output: &mut W) -> End
+    ensures ended { Ended desk (R.remaining input.old) (R.remaining input.new) (W.contents output.old) (W.contents output.new) result }
+    ensures whole { Succeeded result → IfSome (R.remaining input.old) (λ bytes. Appends (W.contents output.old) (W.contents output.new) (program_of desk true bytes).printed) }
 {
     let mut s = Station::new(desk);
     let mut line = [0u8; 401];
@@ -182,17 +207,19 @@ pub fn serve(rt: &HostRuntime, desk: Desk) -> End
     let mut n = 0;
     let mut reads: u64 = 0;
     while reads < u64::MAX {
-        let r = read_chunk(rt.stdin(), s, &mut line, n, &mut out);
+        let r = read_chunk(input, s, &mut line, n, &mut out);
         s = r.station;
         n = r.n;
         let over = r.over;
+        let read = r.read;
         let printed = r.printed;
-        let wrote = rt.stdout().write_all(&out[..printed]).is_ok();
+        let wrote = write_out(output, &out[..printed]).is_ok();
         let ending = ends(over, wrote);
         if ending {
             return End {
                 station: s,
                 over,
+                read,
                 wrote,
                 reads,
             };
@@ -202,6 +229,7 @@ pub fn serve(rt: &HostRuntime, desk: Desk) -> End
     End {
         station: s,
         over: false,
+        read: true,
         wrote: true,
         reads,
     }

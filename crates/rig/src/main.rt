@@ -4,5 +4,5 @@
 use desk::Desk;
 
 fn main(rt: HostRuntime) {
-    console::serve(&rt, Desk::Rig);
+    console::serve(Desk::Rig, &mut rt.stdin(), &mut rt.stdout());
 }
