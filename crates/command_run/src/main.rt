@@ -4,7 +4,7 @@
 use command::refusal::Misread;
 use command::{Command, Found, Way};
 use settings::{Aspect, Pace, Volume};
-use std::io::{self, Stdout};
+use std::io::{self, Read, Stdout};
 
 fn way(out: Stdout, to: Way) -> io::Result<()> {
     match to {
@@ -130,7 +130,7 @@ fn lines(out: Stdout, t: &[u8]) -> io::Result<()> {
 fn main(rt: HostRuntime) -> io::Result<()> {
     let mut texts = [0u8; 32768];
     let mut room = &mut texts[..];
-    io::copy(&mut rt.stdin(), &mut room)?;
+    io::copy(&mut rt.stdin().take(32768), &mut room)?;
     let left = room.len();
     let n = texts.len().saturating_sub(left);
     lines(rt.stdout(), &texts[..n])

@@ -5,7 +5,7 @@ ghost use Rattle.std.specs.Prelude.{◌≡◌};
 ghost use Rattle.text.specs.Data.{received_of};
 
 use command::refusal::Misread;
-use std::io::{self, Stdout};
+use std::io::{self, Read, Stdout};
 use text::{Control, Data, Question, loops};
 
 fn report(out: Stdout, q: Question) -> io::Result<()> {
@@ -98,7 +98,7 @@ fn lines(out: Stdout, t: &mut [u8]) -> io::Result<()> {
 fn main(rt: HostRuntime) -> io::Result<()> {
     let mut data = [0u8; 32768];
     let mut room = &mut data[..];
-    io::copy(&mut rt.stdin(), &mut room)?;
+    io::copy(&mut rt.stdin().take(32768), &mut room)?;
     let left = room.len();
     let n = data.len().saturating_sub(left);
     lines(rt.stdout(), &mut data[..n])
