@@ -1,4 +1,4 @@
-/* The proved pipettor controller, for C99 and C++. Link target/staticlib/libhost.a (`hosts/library` builds it); x86-64, System V calls.
+/* The proved pipettor controller, for C99 and C++. Link target/staticlib/libhost.a (`hosts/library` builds it); x86-64-v2, System V calls.
    Include this file anywhere; there is nothing to initialise but a `pipettor`, and nothing to free.
 
    Memory: one `pipettor` is one controller, 760 bytes, wherever you like (static, stack, heap, a copy by assignment). Its fields need

@@ -1,7 +1,7 @@
 //! A proved pipettor controller, called from Rust.
 //!
 //! The controller is the library `libhost.a`, written in Rattle and proved there (`crates/host`); this crate lends it memory and
-//! reads what it returns. It needs x86-64 and the System V calls. Users write no `unsafe`.
+//! reads what it returns. It needs x86-64-v2 and the System V calls. Users write no `unsafe`.
 //!
 //! A [`Pipettor`] takes the bytes of a serial line and tells the bytes to answer, and takes a tick every 10 ms with what the host
 //! senses: whether a tip is on, and the pressure. Where the plunger is to be it says after every tick.
