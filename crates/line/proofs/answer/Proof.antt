@@ -19,6 +19,6 @@ answer_spec =
     (λ c. search laws)
     (λ c. search laws)
     (λ c. search laws)
-    (λ c κs. room_left _ _ _ _ _ _ _ _ _ c.put_report.ensures c.lay.ensures c.start.ensures c.if-buf-lt32.false _ c.in-Bytes.is)
+    (λ c κs. search laws)
     (λ c. search laws)
     (λ c. search laws))
