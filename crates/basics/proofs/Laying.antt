@@ -6,16 +6,15 @@ use native.Mathlib.Omega.{arith}
 use borrow.Author.Tests.{le-leb}
 use lib.ListN.{length, take, drop, length-append}
 use lib.Seq.{length-take-le, take_at, drop_at, drop-drop}
-use Rattle.basics.specs.declared.Put.{Put}
-use Rattle.basics.specs.declared.Put.TheVariants.{Bytes}
+use Rattle.std.specs.Prelude.{Option, Some}
 use Rattle.basics.specs.Lay.{Laid, over, fits, laid_in}
 use Rattle.basics.proofs.Over.{length_over}
 
-pub record Lay (xs : List ℕ) (at : ℕ) (before : List ℕ) (r : Put) (after : List ℕ) : Type 0 where
-  pub count : r ≡ Bytes (length xs)
+pub record Lay (xs : List ℕ) (at : ℕ) (before : List ℕ) (r : Option ℕ) (after : List ℕ) : Type 0 where
+  pub count : r ≡ Some (length xs)
   pub bytes : after ≡ over xs at before
 
-pub laid : {xs : List ℕ} {at : ℕ} {before : List ℕ} {r : Put} {after : List ℕ} → Laid xs at before r after → at + length xs ≤ length before → Lay xs at before r after
+pub laid : {xs : List ℕ} {at : ℕ} {before : List ℕ} {r : Option ℕ} {after : List ℕ} → Laid xs at before r after → at + length xs ≤ length before → Lay xs at before r after
 unfolding fits laid_in
 laid {xs} {at} {before} l h =
     let e = le-leb (at + length xs) (length before) h in
@@ -33,11 +32,11 @@ over_over xs ys at buf h =
     (ap (λ (x : List ℕ). x ++ drop (at + length (xs ++ ys)) buf) (append_assoc (take at buf) xs ys))
 
 -- ys laid straight after xs, which stand at the start
-module _ (xs ys out one two : List ℕ) (at : ℕ) (r : Put) (e : one ≡ over xs 0 out) (n : at ≡ length xs) (l : Laid ys at one r two) (room : length xs + length ys ≤ length out) where
+module _ (xs ys out one two : List ℕ) (at : ℕ) (r : Option ℕ) (e : one ≡ over xs 0 out) (n : at ≡ length xs) (l : Laid ys at one r two) (room : length xs + length ys ≤ length out) where
   next : Lay ys at one r two
   next = let long : length one ≡ length out = ap length e ∙ length_over xs 0 out (omega arith) in laid l (omega arith)
 
-  pub all_counted : r ≡ Bytes (length ys)
+  pub all_counted : r ≡ Some (length ys)
   all_counted = next.count
 
   pub all_laid : two ≡ over (xs ++ ys) 0 out

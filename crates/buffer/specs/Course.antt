@@ -1,5 +1,5 @@
 -- 01, "Ticks, volume and motion": how a run finds its way through the text: places, loops and their passes.
-use Rattle.std.specs.Prelude.{ℕ, ◌+◌, ◌-◌, ltb, eqb, if◌then◌else◌}
+use Rattle.std.specs.Prelude.{ℕ, ◌+◌, ◌-◌, ltb, eqb, if◌then◌else◌, Err, None, Ok, Option, Result, Some}
 use Rattle.command.specs.declared.refusal.Refusal.{Refusal}
 use Rattle.command.specs.declared.refusal.Refusal.TheVariants as R
 use Rattle.command.specs.Numbers.{refusal_number}
@@ -10,12 +10,8 @@ use Rattle.buffer.specs.declared.course.State.TheVariants.{Empty, Stored, Runnin
 use Rattle.buffer.specs.declared.course.Mark.{Mark}
 use Rattle.buffer.specs.declared.course.Loops.{Loops}
 use Rattle.buffer.specs.declared.course.Course.{Course}
-use Rattle.buffer.specs.declared.course.Went.{Went}
-use Rattle.buffer.specs.declared.course.Went.TheVariants.{On, Off}
 use Rattle.buffer.specs.declared.course.Column.{Column}
 use Rattle.buffer.specs.declared.course.Column.TheVariants as K
-use Rattle.buffer.specs.declared.course.Pass.{Pass}
-use Rattle.buffer.specs.declared.course.Pass.TheVariants.{Again, Over}
 
 -- a course with one field changed
 abbrev pub course_of : ℕ → ℕ → Loops → State → ℕ → ℕ → Course
@@ -48,8 +44,8 @@ abbrev pub repeated : ℕ → Loops → Loops
 repeated p l = loops_of l.depth (mark l.first.start p) l.second l.third l.fourth
 
 -- "G n gives n passes in all"; "0 is endless", and its passes are not counted
-unfoldable pub pass_of : ℕ → ℕ → Pass
-pass_of n p = if eqb n 0 then Again p else if ltb (p + 1) n then Again (p + 1) else Over
+unfoldable pub pass_of : ℕ → ℕ → Option ℕ
+pass_of n p = if eqb n 0 then Some p else if ltb (p + 1) n then Some (p + 1) else None
 
 -- a command has ended, and the next stands at a place: "The end of the last command makes Done in the same tick."
 unfoldable pub reached : ℕ → Loops → Course → Course
@@ -77,19 +73,19 @@ abbrev pub failed_of : Refusal → Course → Course
 failed_of why c = with_error (refusal_number why) 0 (erased_of c)
 
 -- g: "each further one from the command after its g"; a fifth loop is never met (proofs/OnCourse)
-unfoldable pub opened_of : ℕ → Course → Went
+unfoldable pub opened_of : ℕ → Course → Result Course Refusal
 opened_of next c =
-    if ltb c.loops.depth 4 then On (reached next (pushed (mark next 0) c.loops) c) else Off R.Loops
+    if ltb c.loops.depth 4 then Ok (reached next (pushed (mark next 0) c.loops) c) else Err R.Loops
 
 -- G of the innermost open loop: back to its start, or on behind it; "a loop entered anew counts anew"
-unfoldable pub closed_by : Pass → ℕ → Course → Course
-closed_by (Again p) next c = reached c.loops.first.start (repeated p c.loops) c
-closed_by Over next c = reached next (popped c.loops) c
+unfoldable pub closed_by : Option ℕ → ℕ → Course → Course
+closed_by (Some p) next c = reached c.loops.first.start (repeated p c.loops) c
+closed_by None next c = reached next (popped c.loops) c
 
 -- a G without an open g is never met (proofs/OnCourse)
-unfoldable pub closed_of : ℕ → ℕ → Course → Went
+unfoldable pub closed_of : ℕ → ℕ → Course → Result Course Refusal
 closed_of n next c =
-    if eqb c.loops.depth 0 then Off R.Loops else On (closed_by (pass_of n c.loops.first.passes) next c)
+    if eqb c.loops.depth 0 then Err R.Loops else Ok (closed_by (pass_of n c.loops.first.passes) next c)
 
 -- "Then Stopped before the next command, loop counts kept, or Empty if none is left."
 unfoldable pub halted : Course → Course

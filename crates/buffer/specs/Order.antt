@@ -1,9 +1,8 @@
 -- 01, "The buffer": what each string and control asks in each state, and when it is refused.
-use Rattle.std.specs.Prelude.{ℕ, ◌+◌, Bool, true, false, List, [], ltb, length, take, if◌then◌else◌}
+use Rattle.std.specs.Prelude.{ℕ, ◌+◌, Bool, true, false, List, [], ltb, length, take, if◌then◌else◌, Err, Ok}
+use Rattle.command.specs.Verdict.{Verdict}
 use Rattle.basics.specs.Lay.{laid_in}
 use Rattle.command.specs.declared.refusal.Refusal.TheVariants as R
-use Rattle.command.specs.declared.refusal.Verdict.{Verdict}
-use Rattle.command.specs.declared.refusal.Verdict.TheVariants.{Fine, Refused}
 use Rattle.text.specs.Text.{read_of}
 use Rattle.text.specs.Loops.{loops_in}
 use Rattle.buffer.specs.declared.course.State.{State}
@@ -87,12 +86,12 @@ loops_by (Refuse why) stored added = true
 
 -- 01's order for a frame: the state, then text length, then loops
 unfoldable pub sized : ℕ → Bool → Verdict
-sized n loops = if ltb 256 n then Refused R.TooLong else if loops then Fine else Refused R.Loops
+sized n loops = if ltb 256 n then Err R.TooLong else if loops then Ok tt else Err R.Loops
 
 unfoldable pub verdict_of : Order → List ℕ → List ℕ → Verdict
-verdict_of (Refuse why) stored added = Refused why
+verdict_of (Refuse why) stored added = Err why
 verdict_of (Load loading run) stored added = sized (length_by (Load loading run) (length stored) (length added)) (loops_by (Load loading run) stored added)
-verdict_of (Change change) stored added = if loops_by (Change change) stored added then Fine else Refused R.Loops
+verdict_of (Change change) stored added = if loops_by (Change change) stored added then Ok tt else Err R.Loops
 
 -- where the characters go that an order loads
 unfoldable pub laid_by : Order → ℕ → List ℕ → List ℕ → List ℕ
@@ -102,5 +101,5 @@ laid_by (Refuse why) len added text = text
 
 -- the text's array after an order that was accepted or refused
 unfoldable pub stored_by : Order → Verdict → ℕ → List ℕ → List ℕ → List ℕ
-stored_by order Fine len added text = laid_by order len added text
-stored_by order (Refused why) len added text = text
+stored_by order (Ok tt) len added text = laid_by order len added text
+stored_by order (Err why) len added text = text

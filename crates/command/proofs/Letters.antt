@@ -7,15 +7,13 @@ use native.Mathlib.Omega.{arith}
 use borrow.Author.Tests.{eqb-true}
 use lib.Dec.{eqb}
 use lib.ListN.{length}
-use Rattle.std.specs.Prelude.{if◌then◌else◌}
+use Rattle.std.specs.Prelude.{if◌then◌else◌, Ok, Some}
 use Rattle.operand.specs.Text.{operand_text}
 use Rattle.operand.specs.Number.{pair_of}
 use Rattle.command.specs.declared.Letter.{Letter}
 use Rattle.command.specs.declared.Letter.TheVariants as L
 use Rattle.command.specs.declared.Command.{Command}
 use Rattle.command.specs.declared.Command.TheVariants as C
-use Rattle.command.specs.declared.Formed.TheVariants.{Made}
-use Rattle.command.specs.declared.Found.TheVariants as F
 use Rattle.command.specs.Table.{letter_of, row_of, volume_of, paced_of, slopes_of, compensation_of, aspect_of, command_of}
 use Rattle.command.specs.Command.{found_in}
 use Rattle.command.proofs.Made.{wrong_is_not_made, of_made, of_both, of_unit, of_row, of_placed}
@@ -38,7 +36,7 @@ letter_for (C.Close n) = L.Close
 abbrev Of : Letter → Command → Type 0
 Of l c = letter_for c ≡ l
 
-pub a_command_is_made_by_its_letter : (l : Letter) (t : List ℕ) (c : Command) → command_of l t ≡ Made c → letter_for c ≡ l
+pub a_command_is_made_by_its_letter : (l : Letter) (t : List ℕ) (c : Command) → command_of l t ≡ Ok c → letter_for c ≡ l
 unfolding command_of volume_of paced_of slopes_of compensation_of aspect_of
 a_command_is_made_by_its_letter L.Home t c e = of_made (Of L.Home) c _ _ _ (λ n h. refl) e
 a_command_is_made_by_its_letter (L.Volume way) t c e = of_unit (Of (L.Volume way)) c _ _ _ _ (of_made (Of (L.Volume way)) c _ _ _ (λ n h. refl)) (of_made (Of (L.Volume way)) c _ _ _ (λ n h. refl)) e
@@ -88,7 +86,7 @@ e_is_45h b =
         go false h e = not_yet (eqb b 103) _ _ (λ e. other cc) (not_yet (eqb b 71) _ _ (λ e. other cc) (λ e. other cc)) e
 
 -- where an E is found there stands its character
-pub an_eject_stands_at_an_e : (at : ℕ) (b : ℕ) (t : List ℕ) (bare : Bool) (next : ℕ) → found_in at (b ∷ t) ≡ F.Command (C.Eject bare) next → b ≡ 69
+pub an_eject_stands_at_an_e : (at : ℕ) (b : ℕ) (t : List ℕ) (bare : Bool) (next : ℕ) → found_in at (b ∷ t) ≡ Ok (Some (C.Eject bare, next)) → b ≡ 69
 unfolding found_in
 an_eject_stands_at_an_e at b t bare next e =
     e_is_45h b

@@ -2,11 +2,11 @@
 use mathlib.Core.Path.{◌≡◌, refl}
 use Prim.Native.Nat.{◌≤◌, ◌<◌}
 use native.Mathlib.Omega.{arith}
+use Rattle.std.specs.Prelude.{Err, Ok}
+use Rattle.command.specs.Verdict.{Verdict}
 use Rattle.command.specs.declared.refusal.Misread.TheVariants.{Letter, Operand}
 use Rattle.command.specs.declared.refusal.Refusal.{Refusal}
 use Rattle.command.specs.declared.refusal.Refusal.TheVariants as R
-use Rattle.command.specs.declared.refusal.Verdict.{Verdict}
-use Rattle.command.specs.declared.refusal.Verdict.TheVariants.{Fine, Refused}
 use Rattle.command.specs.Numbers.{refusal_number, verdict_number}
 
 pub every_number_is_1_to_15 : (why : Refusal) → (0 < refusal_number why) × (refusal_number why ≤ 15)
@@ -27,10 +27,10 @@ every_number_is_1_to_15 R.TooLong = (omega arith, omega arith)
 every_number_is_1_to_15 R.Busy = (omega arith, omega arith)
 
 -- 0 is accepted, and any other number comes with a reason
-pub zero_is_fine : (v : Verdict) → verdict_number v ≡ 0 → v ≡ Fine
-zero_is_fine Fine e = refl
-zero_is_fine (Refused why) e = absurd (omega (arith, (every_number_is_1_to_15 why).0))
+pub zero_is_fine : (v : Verdict) → verdict_number v ≡ 0 → v ≡ Ok tt
+zero_is_fine (Ok tt) e = refl
+zero_is_fine (Err why) e = absurd (omega (arith, (every_number_is_1_to_15 why).0))
 
-pub another_has_a_reason : (v : Verdict) → (verdict_number v ≡ 0 → ⊥) → (why : Refusal) × (v ≡ Refused why)
-another_has_a_reason Fine h = absurd (h refl)
-another_has_a_reason (Refused why) h = (why, refl)
+pub another_has_a_reason : (v : Verdict) → (verdict_number v ≡ 0 → ⊥) → (why : Refusal) × (v ≡ Err why)
+another_has_a_reason (Ok tt) h = absurd (h refl)
+another_has_a_reason (Err why) h = (why, refl)

@@ -5,6 +5,8 @@ use mathlib.Core.List.{List, [], ◌∷◌}
 use Prim.Native.Nat.{ℕ}
 use Prim.Native.String.{String}
 use lib.ListN.{length}
+use Rattle.std.specs.Prelude.{Err, None, Ok, Some}
+use Rattle.command.specs.Found.{Found}
 use Rattle.basics.specs.Bytes.{chars, digit, every, value_of}
 use Rattle.settings.specs.declared.Pace.TheVariants.{Top, Start, Cutoff}
 use Rattle.settings.specs.declared.Aspect.TheVariants as Detail
@@ -18,8 +20,7 @@ use Rattle.command.specs.declared.Way.{Way}
 use Rattle.command.specs.declared.Way.TheVariants.{To, Up, Down}
 use Rattle.command.specs.declared.Command.{Command}
 use Rattle.command.specs.declared.Command.TheVariants.{Initialise, Speed, Slopes, Backlash, Compensate, Delay, Set, Detect, Eject, Open, Close}
-use Rattle.command.specs.declared.Found.{Found}
-use Rattle.command.specs.declared.Found.TheVariants as F
+use Rattle.settings.specs.declared.Volume.TheVariants as V
 use Rattle.command.specs.Table.{move_by, letter_of, allowed, taken_of, whole_of, nanolitres_of, speed_of, in_tenths, flow_of, made, both, in_unit, volume_of, paced_of, slopes_of, compensation_of, row_at, row_of, detail_of, set_by, aspect_of, command_of}
 use Rattle.command.specs.declared.refusal.Misread.TheVariants as M
 use Rattle.command.specs.declared.refusal.Refusal.TheVariants as R
@@ -34,10 +35,10 @@ pub data Row : Type 0 where
 
 infix 70 ◌increments◌ ◌nL◌
 abbrev ◌increments◌ : ℕ → Way → Command
-n increments way = move_by way false n
+n increments way = move_by way V.Increments n
 
 abbrev ◌nL◌ : ℕ → Way → Command
-n nL way = move_by way true n
+n nL way = move_by way V.Nanolitres n
 
 -- what the definitions say of a text: a command and the place behind it, a number of 01, or nothing
 pub data Answer : Type 0 where
@@ -46,9 +47,9 @@ pub data Answer : Type 0 where
   nothing : Answer
 
 abbrev pub answer : Found → Answer
-answer (F.Command k next) = command k next
-answer (F.Refused m) = refusal (refusal_number (R.Misread m))
-answer F.End = nothing
+answer (Ok (Some (k, next))) = command k next
+answer (Err m) = refusal (refusal_number (R.Misread m))
+answer (Ok None) = nothing
 
 abbrev pub answers_of : List Row → List Answer
 answers_of [] = []
@@ -274,7 +275,7 @@ found_of (text read n ∷ rows) = command_at (chars text) 0 ∷ found_of rows
 
 abbrev pub refused_of : List Part → List Found
 refused_of [] = []
-refused_of (text read n ∷ rows) = F.Refused (M.Operand 1 n) ∷ refused_of rows
+refused_of (text read n ∷ rows) = Err (M.Operand 1 n) ∷ refused_of rows
 
 abbrev pub parts : List Part
 parts =

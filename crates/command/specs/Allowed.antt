@@ -1,19 +1,14 @@
 -- The numbers that a command of 01's table can have, its defaults included.
-use Rattle.std.specs.Prelude.{Bool, true, false}
-use Rattle.settings.specs.declared.Range.{Range}
 use Rattle.settings.specs.declared.Quantity.TheVariants as Q
+use Rattle.settings.specs.declared.Volume.TheVariants as V
 use Rattle.settings.specs.Limits.{range_of, speeds_of, aspects_of, Between}
 use Rattle.command.specs.declared.Command.{Command}
 use Rattle.command.specs.declared.Command.TheVariants as C
 
--- A P D: increments, or nL
-abbrev pub volumes : Bool → Range
-volumes false = range_of Q.Increments
-volumes true = range_of Q.Nanolitres
-
 unfoldable pub Allowed : Command → Type 0
 Allowed (C.Initialise n) = Between (range_of Q.Home) n
-Allowed (C.Move way v) = Between (volumes v.micro) v.amount
+Allowed (C.Move way (V.Increments n)) = Between (range_of Q.Increments) n
+Allowed (C.Move way (V.Nanolitres n)) = Between (range_of Q.Nanolitres) n
 Allowed (C.Speed pace n) = Between (speeds_of pace) n
 Allowed (C.Slopes up down) = Between (range_of Q.Slope) up × Between (range_of Q.Slope) down
 Allowed (C.Backlash n) = Between (range_of Q.Backlash) n

@@ -1,22 +1,22 @@
 -- The command at a place of a text, with the place after it; or why there is none.
-use Rattle.std.specs.Prelude.{ℕ, ◌+◌, ◌≤◌, ◌<◌, ◌≡◌, true, false, List, [], ◌∷◌, length, drop, get_or}
+use Rattle.std.specs.Prelude.{ℕ, ◌+◌, ◌≤◌, ◌<◌, ◌≡◌, true, false, List, [], ◌∷◌, length, drop, get_or, Err, None, Ok, Result, Some}
+use Rattle.command.specs.declared.Malformed.{Malformed}
+use Rattle.command.specs.declared.Malformed.TheVariants.{NoLetter, WrongOperand}
+use Rattle.command.specs.declared.Command.{Command}
+use Rattle.command.specs.Found.{Found}
 use Rattle.operand.specs.declared.Class.TheVariants as Class
 use Rattle.operand.specs.Text.{has, operand_text}
-use Rattle.command.specs.declared.Formed.{Formed}
-use Rattle.command.specs.declared.Formed.TheVariants.{Made, NoLetter, WrongOperand}
-use Rattle.command.specs.declared.Found.{Found}
-use Rattle.command.specs.declared.Found.TheVariants as F
 use Rattle.command.specs.declared.refusal.Misread.TheVariants.{Letter, Operand}
 use Rattle.command.specs.Table.{letter_of, command_of, read_by}
 
 -- a letter at a place with an operand text of n bytes behind it
-unfoldable pub placed : ℕ → ℕ → Formed → Found
-placed at n (Made c) = F.Command c (at + 1 + n)
-placed at n NoLetter = F.Refused (Letter at)
-placed at n (WrongOperand read) = F.Refused (Operand (at + 1) read)
+unfoldable pub placed : ℕ → ℕ → Result Command Malformed → Found
+placed at n (Ok c) = Ok (Some (c, at + 1 + n))
+placed at n (Err NoLetter) = Err (Letter at)
+placed at n (Err (WrongOperand read)) = Err (Operand (at + 1) read)
 
 unfoldable pub found_in : ℕ → List ℕ → Found
-found_in at [] = F.End
+found_in at [] = Ok None
 found_in at (b ∷ t) = placed at (length (operand_text t)) (command_of (letter_of b) (operand_text t))
 
 unfoldable pub command_at : List ℕ → ℕ → Found

@@ -1,3 +1,5 @@
+pub mod Verdict
+pub mod Found
 pub mod Table
 pub mod Command
 pub mod Numbers

@@ -1,10 +1,9 @@
 -- 01, "Numbers that come back": the number of each refusal.
-use Rattle.std.specs.Prelude.{ℕ, ◌+◌, ltb, if◌then◌else◌}
+use Rattle.std.specs.Prelude.{ℕ, ◌+◌, ltb, if◌then◌else◌, Err, Ok}
+use Rattle.command.specs.Verdict.{Verdict}
 use Rattle.command.specs.declared.refusal.Misread.TheVariants.{Letter, Operand}
 use Rattle.command.specs.declared.refusal.Refusal.{Refusal}
 use Rattle.command.specs.declared.refusal.Refusal.TheVariants as R
-use Rattle.command.specs.declared.refusal.Verdict.{Verdict}
-use Rattle.command.specs.declared.refusal.Verdict.TheVariants.{Fine, Refused}
 
 abbrev pub refusal_number : Refusal → ℕ
 -- "command letter not allowed here"
@@ -32,8 +31,8 @@ refusal_number R.Busy = 15
 
 -- "0: accepted"
 abbrev pub verdict_number : Verdict → ℕ
-verdict_number Fine = 0
-verdict_number (Refused why) = refusal_number why
+verdict_number (Ok tt) = 0
+verdict_number (Err why) = refusal_number why
 
 -- 02, W-202: "the column of the last load refusal by 2 or 3, spaces dropped, counted from 1: the unallowed letter .., or where the wrong operand text begins"; data have 320 characters at most
 abbrev pub column_at : ℕ → ℕ
@@ -59,5 +58,5 @@ refusal_column R.Busy = 0
 
 -- of two, one after the other: the first refusal
 abbrev pub first_of : Verdict → Verdict → Verdict
-first_of Fine later = later
-first_of (Refused why) later = Refused why
+first_of (Ok tt) later = later
+first_of (Err why) later = Err why

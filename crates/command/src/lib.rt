@@ -3,11 +3,12 @@
 
 pub mod refusal;
 
-ghost use Rattle.std.specs.Prelude.{◌≡◌, ◌+◌, ◌-◌, ◌^◌, ◌≤◌};
-ghost use Rattle.command.specs.Table.{letter_of, ranged_of, allowed, taken_of, whole_of, nanolitres_of, speed_of, in_tenths, flow_of, made, one_of, eject_by, row_at, row_of, detail_of, aspect_of, detect_by, move_by, volume_of, paced_of, slopes_of, compensation_of, command_of};
+ghost use Rattle.std.specs.Prelude.{◌≡◌, ◌+◌, ◌^◌, ◌≤◌, ◌<◌};
+ghost use Rattle.operand.specs.Number.{single_of};
+ghost use Rattle.command.specs.Table.{letter_of, ranged_of, allowed, taken_of, whole_of, nanolitres_of, speed_of, flow_of, required, row_at, row_of, detail_of, aspect_of, volume_of, paced_of, slopes_of, compensation_of, command_of};
 ghost use Rattle.command.specs.Command.{placed, command_at};
 
-use operand::{Number, Pair, Single};
+use operand::{Number, Pair};
 use refusal::Misread;
 use settings::{Aspect, Pace, Quantity, Range, Settings, Volume, units};
 
@@ -46,13 +47,8 @@ pub enum Command {
     Close(u32),
 }
 
-// A command and the place after it, a refusal, or nothing where the text ends.
-#[derive(Clone, Copy)]
-pub enum Found {
-    Command(Command, usize),
-    Refused(Misread),
-    End,
-}
+// A command and the place after it, or nothing where the text ends; or a refusal.
+pub type Found = Result<Option<(Command, usize)>, Misread>;
 
 // What a letter of the table stands for.
 #[derive(Clone, Copy)]
@@ -72,438 +68,290 @@ pub enum Letter {
     Other,
 }
 
-// A number of a command.
+// Why a letter and its operand text make no command.
 #[derive(Clone, Copy)]
-pub enum Taken {
-    Good(u32),
-    Bad,
-}
-
-// What p sets, by its first number.
-#[derive(Clone, Copy)]
-pub enum Row {
-    Of(Aspect),
-    Missing,
-}
-
-// What a letter and its operand text make.
-#[derive(Clone, Copy)]
-pub enum Formed {
-    Made(Command),
+pub enum Malformed {
     NoLetter,
     // How many characters of the operand text were read.
     WrongOperand(usize),
 }
 
-fn letter_of(b: u8) -> Letter
-    ensures { result ≡ letter_of b }
-{
-    match b {
-        b'W' => Letter::Home,
-        b'A' => Letter::Volume(Way::To),
-        b'P' => Letter::Volume(Way::Up),
-        b'D' => Letter::Volume(Way::Down),
-        b'V' => Letter::Speed(Pace::Top),
-        b'v' => Letter::Speed(Pace::Start),
-        b'c' => Letter::Speed(Pace::Cutoff),
-        b'L' => Letter::Slopes,
-        b'K' => Letter::Backlash,
-        b'b' => Letter::Compensation,
-        b'M' => Letter::Delay,
-        b'p' => Letter::Aspect,
-        b'B' => Letter::Detect,
-        b'E' => Letter::Eject,
-        b'g' => Letter::Open,
-        b'G' => Letter::Close,
-        _ => Letter::Other,
-    }
-}
+impl From<u8> for Letter {
+    ghost from_gives = { λ b l. l ≡ letter_of b };
 
-// 01: "An absent number takes its default without a range check."
-fn unchecked(n: u32) -> Taken
-    ensures { result ≡ Taken.Good n }
-{
-    Taken::Good(n)
+    #[tactic(auto, unfolding(crate::specs::Table::letter_of))]
+    fn from(b: u8) -> Letter
+        ensures { result ≡ letter_of b }
+    {
+        match b {
+            b'W' => Letter::Home,
+            b'A' => Letter::Volume(Way::To),
+            b'P' => Letter::Volume(Way::Up),
+            b'D' => Letter::Volume(Way::Down),
+            b'V' => Letter::Speed(Pace::Top),
+            b'v' => Letter::Speed(Pace::Start),
+            b'c' => Letter::Speed(Pace::Cutoff),
+            b'L' => Letter::Slopes,
+            b'K' => Letter::Backlash,
+            b'b' => Letter::Compensation,
+            b'M' => Letter::Delay,
+            b'p' => Letter::Aspect,
+            b'B' => Letter::Detect,
+            b'E' => Letter::Eject,
+            b'g' => Letter::Open,
+            b'G' => Letter::Close,
+            _ => Letter::Other,
+        }
+    }
 }
 
 // A number, if its range has it.
-fn ranged(range: Range, n: u32) -> Taken
+fn ranged(range: Range, n: u32) -> Option<u32>
     ensures { result ≡ ranged_of range n }
 {
-    if range.has(n) {
-        return Taken::Good(n);
-    }
-    Taken::Bad
+    if range.has(n) { Some(n) } else { None }
 }
 
-// A written number of at most k decimals; `unit` is what 1 / 10 ^ k is in thousandths.
-fn allow(k: usize, unit: u32, range: Range, thousandths: u32, decimals: usize) -> Taken
-    requires { (unit ≡ 10 ^ (3 - k)) × (1 ≤ unit) }
+// A written number of at most k decimals, in units of the last of them.
+#[tactic(auto, unfolding(crate::specs::Table::allowed))]
+fn allow(k: usize, range: Range, thousandths: u32, decimals: usize) -> Option<u32>
+    requires { k ≤ 3 }
     ensures { result ≡ allowed k range thousandths decimals }
 {
     if k < decimals {
-        return Taken::Bad;
+        return None;
     }
-    let n = thousandths / unit;
-    ranged(range, n)
+    let unit = 10u32.pow(3 - k as u32);
+    ranged(range, thousandths / unit)
 }
 
 // A number of the table: the default where it is absent, else as written.
-fn accept(k: usize, unit: u32, range: Range, usual: u32, n: Number) -> Taken
-    requires { (unit ≡ 10 ^ (3 - k)) × (1 ≤ unit) }
+#[tactic(auto, unfolding(crate::specs::Table::taken_of))]
+fn accept(k: usize, range: Range, usual: u32, n: Number) -> Option<u32>
+    requires { k ≤ 3 }
     ensures { result ≡ taken_of k range usual n }
 {
     match n {
-        Number::Absent => unchecked(usual),
+        // 01: "An absent number takes its default without a range check."
+        Number::Absent => Some(usual),
         Number::Is {
             thousandths,
             decimals,
-        } => allow(k, unit, range, thousandths, decimals),
-        Number::Wrong(_) => Taken::Bad,
+        } => allow(k, range, thousandths, decimals),
+        Number::Wrong(_) => None,
     }
 }
 
 // A number without a point.
-fn whole(of: Quantity, n: Number) -> Taken
+#[tactic(auto, unfolding(crate::specs::Table::whole_of))]
+fn whole(of: Quantity, n: Number) -> Option<u32>
     ensures { result ≡ whole_of of n }
 {
-    let range = Settings::range(of);
-    let usual = Settings::usual(of);
-    accept(0, 1000, range, usual, n)
+    accept(0, Settings::range(of), Settings::usual(of), n)
 }
 
 // A volume in µL, as nL.
-fn nanolitres(n: Number) -> Taken
+#[tactic(auto, unfolding(crate::specs::Table::nanolitres_of))]
+fn nanolitres(n: Number) -> Option<u32>
     ensures { result ≡ nanolitres_of n }
 {
-    let range = Settings::range(Quantity::Nanolitres);
-    let usual = Settings::usual(Quantity::Nanolitres);
-    accept(3, 1, range, usual, n)
+    let of = Quantity::Nanolitres;
+    accept(3, Settings::range(of), Settings::usual(of), n)
 }
 
 // A speed in increments a second, as tenths.
-fn speed(of: Pace, n: Number) -> Taken
+#[tactic(auto, unfolding(crate::specs::Table::speed_of))]
+fn speed(of: Pace, n: Number) -> Option<u32>
     ensures { result ≡ speed_of of n }
 {
-    let range = Settings::speeds(of);
-    let usual = Settings::usual_speed(of);
-    accept(1, 100, range, usual, n)
-}
-
-// nL a second as tenths of an increment a second.
-fn in_tenths(taken: Taken) -> Taken
-    ensures { result ≡ in_tenths taken }
-{
-    match taken {
-        Taken::Good(nl) => Taken::Good(units::tenths(nl)),
-        Taken::Bad => Taken::Bad,
-    }
+    accept(1, Settings::speeds(of), Settings::usual_speed(of), n)
 }
 
 // A speed in µL a second, as tenths of an increment a second.
-fn flow(of: Pace, n: Number) -> Taken
+#[tactic(auto, unfolding(crate::specs::Table::flow_of, crate::specs::Table::in_tenths))]
+fn flow(of: Pace, n: Number) -> Option<u32>
     ensures { result ≡ flow_of of n }
 {
     match n {
-        Number::Absent => unchecked(Settings::usual_speed(of)),
+        Number::Absent => Some(Settings::usual_speed(of)),
         Number::Is {
             thousandths,
             decimals,
-        } => {
-            let range = Settings::flows(of);
-            in_tenths(allow(3, 1, range, thousandths, decimals))
-        }
-        Number::Wrong(_) => Taken::Bad,
+        } => allow(3, Settings::flows(of), thousandths, decimals).map(units::tenths),
+        Number::Wrong(_) => None,
     }
 }
 
-fn move_by(read: usize, way: Way, micro: bool, taken: Taken) -> Formed
-    ensures { result ≡ made read (move_by way micro) taken }
+// The one number of a command.
+fn single(of: Quantity, t: &[u8]) -> Result<u32, Malformed>
+    ensures { result ≡ required (single_of t.now).read (whole_of of (single_of t.now).number) }
 {
-    match taken {
-        Taken::Good(amount) => Formed::Made(Command::Move(way, Volume { amount, micro })),
-        Taken::Bad => Formed::WrongOperand(read),
-    }
+    let only = operand::only(t);
+    whole(of, only.number).ok_or(Malformed::WrongOperand(only.read))
 }
 
 // A, P and D.
-fn volume(way: Way, pair: Pair) -> Formed
+#[tactic(auto, unfolding(crate::specs::Table::volume_of, crate::specs::Table::in_unit, crate::specs::Table::made))]
+fn volume(way: Way, pair: Pair) -> Result<Command, Malformed>
     ensures { result ≡ volume_of way pair }
 {
-    let first = pair.first;
-    let second = pair.second;
-    let read = pair.read;
-    let unit = whole(Quantity::Choice, second);
-    match unit {
-        Taken::Good(unit) => {
-            if unit == 0 {
-                return move_by(read, way, false, whole(Quantity::Increments, first));
-            }
-            move_by(read, way, true, nanolitres(first))
-        }
-        Taken::Bad => Formed::WrongOperand(read),
-    }
-}
-
-fn pace_by(read: usize, pace: Pace, taken: Taken) -> Formed
-    ensures { result ≡ made read (Command.Speed pace) taken }
-{
-    match taken {
-        Taken::Good(tenths) => Formed::Made(Command::Speed(pace, tenths)),
-        Taken::Bad => Formed::WrongOperand(read),
-    }
+    let wrong = Malformed::WrongOperand(pair.read);
+    let micro = whole(Quantity::Choice, pair.second).ok_or(wrong)?;
+    let volume = if micro == 0 {
+        Volume::Increments(whole(Quantity::Increments, pair.first).ok_or(wrong)?)
+    } else {
+        Volume::Nanolitres(nanolitres(pair.first).ok_or(wrong)?)
+    };
+    Ok(Command::Move(way, volume))
 }
 
 // V, v and c.
-fn paced(pace: Pace, pair: Pair) -> Formed
+#[tactic(auto, unfolding(crate::specs::Table::paced_of, crate::specs::Table::in_unit, crate::specs::Table::made))]
+fn paced(pace: Pace, pair: Pair) -> Result<Command, Malformed>
     ensures { result ≡ paced_of pace pair }
 {
-    let first = pair.first;
-    let second = pair.second;
-    let read = pair.read;
-    let unit = whole(Quantity::Choice, second);
-    match unit {
-        Taken::Good(unit) => {
-            if unit == 0 {
-                return pace_by(read, pace, speed(pace, first));
-            }
-            pace_by(read, pace, flow(pace, first))
-        }
-        Taken::Bad => Formed::WrongOperand(read),
-    }
+    let wrong = Malformed::WrongOperand(pair.read);
+    let micro = whole(Quantity::Choice, pair.second).ok_or(wrong)?;
+    let tenths = if micro == 0 {
+        speed(pace, pair.first)
+    } else {
+        flow(pace, pair.first)
+    };
+    Ok(Command::Speed(pace, tenths.ok_or(wrong)?))
 }
 
 // L.
-fn slopes(pair: Pair) -> Formed
+#[tactic(auto, unfolding(crate::specs::Table::slopes_of, crate::specs::Table::both))]
+fn slopes(pair: Pair) -> Result<Command, Malformed>
     ensures { result ≡ slopes_of pair }
 {
-    let first = pair.first;
-    let second = pair.second;
-    let read = pair.read;
-    let Taken::Good(up) = whole(Quantity::Slope, first) else {
-        return Formed::WrongOperand(read);
-    };
-    let Taken::Good(down) = whole(Quantity::Slope, second) else {
-        return Formed::WrongOperand(read);
-    };
-    Formed::Made(Command::Slopes(up, down))
+    let wrong = Malformed::WrongOperand(pair.read);
+    let up = whole(Quantity::Slope, pair.first).ok_or(wrong)?;
+    let down = whole(Quantity::Slope, pair.second).ok_or(wrong)?;
+    Ok(Command::Slopes(up, down))
 }
 
 // b.
-fn compensation(pair: Pair) -> Formed
+#[tactic(auto, unfolding(crate::specs::Table::compensation_of, crate::specs::Table::both))]
+fn compensation(pair: Pair) -> Result<Command, Malformed>
     ensures { result ≡ compensation_of pair }
 {
-    let first = pair.first;
-    let second = pair.second;
-    let read = pair.read;
-    let Taken::Good(by) = whole(Quantity::Compensation, first) else {
-        return Formed::WrongOperand(read);
-    };
-    let Taken::Good(way) = whole(Quantity::Choice, second) else {
-        return Formed::WrongOperand(read);
-    };
-    let b = by as u16;
-    Formed::Made(Command::Compensate(b, way == 1))
-}
-
-// W.
-fn home(only: Single) -> Formed
-    ensures { result ≡ one_of Command.Initialise Quantity.Home only }
-{
-    let n = only.number;
-    let read = only.read;
-    match whole(Quantity::Home, n) {
-        Taken::Good(n) => {
-            let speed = n as u16;
-            Formed::Made(Command::Initialise(speed))
-        }
-        Taken::Bad => Formed::WrongOperand(read),
-    }
-}
-
-// K.
-fn backlash(only: Single) -> Formed
-    ensures { result ≡ one_of Command.Backlash Quantity.Backlash only }
-{
-    let n = only.number;
-    let read = only.read;
-    match whole(Quantity::Backlash, n) {
-        Taken::Good(increments) => Formed::Made(Command::Backlash(increments)),
-        Taken::Bad => Formed::WrongOperand(read),
-    }
-}
-
-// M.
-fn delay(only: Single) -> Formed
-    ensures { result ≡ one_of Command.Delay Quantity.Delay only }
-{
-    let n = only.number;
-    let read = only.read;
-    match whole(Quantity::Delay, n) {
-        Taken::Good(ms) => Formed::Made(Command::Delay(ms)),
-        Taken::Bad => Formed::WrongOperand(read),
-    }
-}
-
-// E.
-fn eject(only: Single) -> Formed
-    ensures { result ≡ one_of eject_by Quantity.Choice only }
-{
-    let n = only.number;
-    let read = only.read;
-    match whole(Quantity::Choice, n) {
-        Taken::Good(which) => Formed::Made(Command::Eject(which == 1)),
-        Taken::Bad => Formed::WrongOperand(read),
-    }
+    let wrong = Malformed::WrongOperand(pair.read);
+    let by = whole(Quantity::Compensation, pair.first).ok_or(wrong)?;
+    let way = whole(Quantity::Choice, pair.second).ok_or(wrong)?;
+    Ok(Command::Compensate(by as u16, way == 1))
 }
 
 // p0 to p6.
-fn row_at(n: u32) -> Row
+#[tactic(auto, unfolding(crate::specs::Table::row_at))]
+fn row_at(n: u32) -> Option<Aspect>
     ensures { result ≡ row_at n }
 {
     match n {
-        0 => Row::Of(Aspect::Threshold),
-        1 => Row::Of(Aspect::Duration),
-        2 => Row::Of(Aspect::Place),
-        3 => Row::Of(Aspect::Speed),
-        4 => Row::Of(Aspect::Most),
-        5 => Row::Of(Aspect::Mode),
-        6 => Row::Of(Aspect::Interval),
-        _ => Row::Missing,
+        0 => Some(Aspect::Threshold),
+        1 => Some(Aspect::Duration),
+        2 => Some(Aspect::Place),
+        3 => Some(Aspect::Speed),
+        4 => Some(Aspect::Most),
+        5 => Some(Aspect::Mode),
+        6 => Some(Aspect::Interval),
+        _ => None,
     }
 }
 
 // The first number of p: a whole one, and never absent.
-fn row_for(n: Number) -> Row
+#[tactic(auto, unfolding(crate::specs::Table::row_of))]
+fn row_for(n: Number) -> Option<Aspect>
     ensures { result ≡ row_of n }
 {
     match n {
-        Number::Absent => Row::Missing,
         Number::Is {
             thousandths,
-            decimals,
-        } => {
-            if decimals != 0 {
-                return Row::Missing;
-            }
-            row_at(thousandths / 1000)
-        }
-        Number::Wrong(_) => Row::Missing,
+            decimals: 0,
+        } => row_at(thousandths / 1000),
+        _ => None,
     }
 }
 
 // Its second number.
-fn detail(of: Aspect, n: Number) -> Taken
+#[tactic(auto, unfolding(crate::specs::Table::detail_of))]
+fn detail(of: Aspect, n: Number) -> Option<u32>
     ensures { result ≡ detail_of of n }
 {
-    let range = Settings::aspects(of);
-    let usual = Settings::usual_aspect(of);
-    accept(0, 1000, range, usual, n)
-}
-
-fn set_to(read: usize, of: Aspect, second: Number) -> Formed
-    ensures { result ≡ made read (Command.Set of) (detail_of of second) }
-{
-    match detail(of, second) {
-        Taken::Good(n) => {
-            let to = n as u16;
-            Formed::Made(Command::Set(of, to))
-        }
-        Taken::Bad => Formed::WrongOperand(read),
-    }
+    accept(0, Settings::aspects(of), Settings::usual_aspect(of), n)
 }
 
 // p.
-fn aspect(pair: Pair) -> Formed
+#[tactic(auto, using(crate::proofs::Within::small_detail), unfolding(crate::specs::Table::aspect_of, crate::specs::Table::set_by, crate::specs::Table::made))]
+fn aspect(pair: Pair) -> Result<Command, Malformed>
     ensures { result ≡ aspect_of pair }
 {
-    let first = pair.first;
-    let second = pair.second;
-    let read = pair.read;
-    match row_for(first) {
-        Row::Of(of) => set_to(read, of, second),
-        Row::Missing => Formed::WrongOperand(read),
-    }
-}
-
-// B.
-fn detect(only: Single) -> Formed
-    ensures { result ≡ one_of detect_by Quantity.Choice only }
-{
-    let n = only.number;
-    let read = only.read;
-    match whole(Quantity::Choice, n) {
-        Taken::Good(which) => Formed::Made(Command::Detect(which == 1)),
-        Taken::Bad => Formed::WrongOperand(read),
-    }
-}
-
-// G.
-fn close(only: Single) -> Formed
-    ensures { result ≡ one_of Command.Close Quantity.Passes only }
-{
-    let n = only.number;
-    let read = only.read;
-    match whole(Quantity::Passes, n) {
-        Taken::Good(passes) => Formed::Made(Command::Close(passes)),
-        Taken::Bad => Formed::WrongOperand(read),
-    }
+    let wrong = Malformed::WrongOperand(pair.read);
+    let of = row_for(pair.first).ok_or(wrong)?;
+    let n = detail(of, pair.second).ok_or(wrong)?;
+    Ok(Command::Set(of, n as u16))
 }
 
 // g takes no operand.
-fn opened(t: &[u8]) -> Formed
+#[tactic(auto, unfolding(crate::specs::Table::command_of))]
+fn opened(t: &[u8]) -> Result<Command, Malformed>
     ensures { result ≡ command_of Letter.Open t.now }
 {
-    if t.len() == 0 {
-        return Formed::Made(Command::Open);
+    if t.is_empty() {
+        return Ok(Command::Open);
     }
-    Formed::WrongOperand(0)
+    Err(Malformed::WrongOperand(0))
 }
 
 // What a letter and its operand text make.
-fn form(letter: Letter, t: &[u8]) -> Formed
+#[tactic(auto, unfolding(crate::specs::Table::command_of, crate::specs::Table::made))]
+fn form(letter: Letter, t: &[u8]) -> Result<Command, Malformed>
     ensures { result ≡ command_of letter t.now }
 {
     match letter {
-        Letter::Home => home(operand::only(t)),
+        Letter::Home => Ok(Command::Initialise(single(Quantity::Home, t)? as u16)),
         Letter::Volume(way) => volume(way, operand::two(t)),
         Letter::Speed(pace) => paced(pace, operand::two(t)),
         Letter::Slopes => slopes(operand::two(t)),
-        Letter::Backlash => backlash(operand::only(t)),
+        Letter::Backlash => Ok(Command::Backlash(single(Quantity::Backlash, t)?)),
         Letter::Compensation => compensation(operand::two(t)),
-        Letter::Delay => delay(operand::only(t)),
+        Letter::Delay => Ok(Command::Delay(single(Quantity::Delay, t)?)),
         Letter::Aspect => aspect(operand::two(t)),
-        Letter::Detect => detect(operand::only(t)),
-        Letter::Eject => eject(operand::only(t)),
+        Letter::Detect => Ok(Command::Detect(single(Quantity::Choice, t)? == 1)),
+        Letter::Eject => Ok(Command::Eject(single(Quantity::Choice, t)? == 1)),
         Letter::Open => opened(t),
-        Letter::Close => close(operand::only(t)),
-        Letter::Other => Formed::NoLetter,
+        Letter::Close => Ok(Command::Close(single(Quantity::Passes, t)?)),
+        Letter::Other => Err(Malformed::NoLetter),
     }
 }
 
-// What stands at `at`, whose operand text ends at `next`.
-fn place(at: usize, from: usize, next: usize, formed: Formed) -> Found
-    requires { (from ≡ at + 1) × (from ≤ next) }
-    ensures { result ≡ placed at (next - from) formed }
+// Where what is malformed stands, its letter being at `at`.
+#[tactic(auto, unfolding(crate::specs::Command::placed))]
+fn misread(at: usize, why: Malformed) -> Misread
+    requires { at + 1 < 2 ^ 64 }
+    ensures { Err result ≡ placed at 0 (Err why) }
 {
-    match formed {
-        Formed::Made(c) => Found::Command(c, next),
-        Formed::NoLetter => Found::Refused(Misread::Letter(at)),
-        Formed::WrongOperand(read) => Found::Refused(Misread::Operand { place: from, read }),
+    match why {
+        Malformed::NoLetter => Misread::Letter(at),
+        Malformed::WrongOperand(read) => Misread::Operand {
+            place: at + 1,
+            read,
+        },
     }
 }
 
 // The command at a place of a text.
+#[tactic(auto, unfolding(crate::specs::Command::command_at, crate::specs::Command::found_in, crate::specs::Command::placed))]
 pub fn command_at(s: &[u8], at: usize) -> Found
     ensures { result ≡ command_at s.now at }
 {
     if s.len() <= at {
-        return Found::End;
+        return Ok(None);
     }
-    let letter = letter_of(s[at]);
     let from = at + 1;
-    let size = operand::extent(&s[from..]);
-    let next = from + size;
-    let made = form(letter, &s[from..next]);
-    place(at, from, next, made)
+    let next = from + operand::extent(&s[from..]);
+    match form(Letter::from(s[at]), &s[from..next]) {
+        Ok(command) => Ok(Some((command, next))),
+        Err(why) => Err(misread(at, why)),
+    }
 }

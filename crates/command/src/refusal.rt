@@ -1,6 +1,6 @@
 // Why something is refused, and 01's number for it.
 ghost use Rattle.std.specs.Prelude.{◌≡◌};
-ghost use Rattle.command.specs.Numbers.{refusal_number, column_at, refusal_column, verdict_number, first_of};
+ghost use Rattle.command.specs.Numbers.{refusal_number, column_at, refusal_column, verdict_number};
 
 // The first wrong place of a text.
 #[derive(Clone, Copy)]
@@ -40,21 +40,13 @@ pub enum Refusal {
 }
 
 // That something is refused, and why; or not.
-#[derive(Clone, Copy)]
-pub enum Verdict {
-    Fine,
-    Refused(Refusal),
-}
+pub type Verdict = Result<(), Refusal>;
 
 // The column of a place, counted from 1; data have 320 characters at most.
 fn column_at(place: usize) -> u32
     ensures { result ≡ column_at place }
 {
-    if 320 < place {
-        return 321;
-    }
-    let before = place as u32;
-    before + 1
+    place.min(320) as u32 + 1
 }
 
 impl Misread {
@@ -62,8 +54,7 @@ impl Misread {
         ensures { result ≡ refusal_column (Refusal.Misread self) }
     {
         match self {
-            Misread::Letter(place) => column_at(place),
-            Misread::Operand { place, read: _ } => column_at(place),
+            Misread::Letter(place) | Misread::Operand { place, .. } => column_at(place),
         }
     }
 
@@ -72,7 +63,7 @@ impl Misread {
     {
         match self {
             Misread::Letter(_) => 2,
-            Misread::Operand { place: _, read: _ } => 3,
+            Misread::Operand { .. } => 3,
         }
     }
 }
@@ -84,19 +75,18 @@ impl Refusal {
     {
         match self {
             Refusal::Misread(m) => m.number(),
-            Refusal::Report => 3,
-            Refusal::Loops => 3,
-            Refusal::StartAboveTop => 3,
-            Refusal::Outside => 3,
-            Refusal::NoWayDown => 3,
+            Refusal::Report
+            | Refusal::Loops
+            | Refusal::StartAboveTop
+            | Refusal::Outside
+            | Refusal::NoWayDown => 3,
             Refusal::TooMuchPressure => 5,
             Refusal::NoLiquid => 6,
             Refusal::NotInitialised => 7,
             Refusal::StillThere => 8,
             Refusal::NoTip => 10,
             Refusal::NothingToRun => 14,
-            Refusal::TooLong => 15,
-            Refusal::Busy => 15,
+            Refusal::TooLong | Refusal::Busy => 15,
         }
     }
 
@@ -106,41 +96,17 @@ impl Refusal {
     {
         match self {
             Refusal::Misread(m) => m.column(),
-            Refusal::Report => 0,
-            Refusal::Loops => 0,
-            Refusal::StartAboveTop => 0,
-            Refusal::Outside => 0,
-            Refusal::NoWayDown => 0,
-            Refusal::TooMuchPressure => 0,
-            Refusal::NoLiquid => 0,
-            Refusal::NotInitialised => 0,
-            Refusal::StillThere => 0,
-            Refusal::NoTip => 0,
-            Refusal::NothingToRun => 0,
-            Refusal::TooLong => 0,
-            Refusal::Busy => 0,
+            _ => 0,
         }
     }
 }
 
-impl Verdict {
-    // 0, or 01's number for why.
-    pub fn number(self) -> u8
-        ensures { result ≡ verdict_number self }
-    {
-        match self {
-            Verdict::Fine => 0,
-            Verdict::Refused(why) => why.number(),
-        }
-    }
-
-    // Of two, one after the other: the first refusal.
-    pub fn first(self, later: Verdict) -> Verdict
-        ensures { result ≡ first_of self later }
-    {
-        match self {
-            Verdict::Fine => later,
-            Verdict::Refused(why) => Verdict::Refused(why),
-        }
+// 0, or 01's number for why.
+pub fn number(verdict: Verdict) -> u8
+    ensures { result ≡ verdict_number verdict }
+{
+    match verdict {
+        Ok(()) => 0,
+        Err(why) => why.number(),
     }
 }

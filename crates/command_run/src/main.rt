@@ -15,10 +15,10 @@ fn way(out: Stdout, to: Way) -> io::Result<()> {
 }
 
 fn volume(out: Stdout, v: Volume) -> io::Result<()> {
-    if v.micro {
-        return print!(out; "{} nL", v.amount);
+    match v {
+        Volume::Increments(n) => print!(out; "{n} increments"),
+        Volume::Nanolitres(n) => print!(out; "{n} nL"),
     }
-    print!(out; "{} increments", v.amount)
 }
 
 fn pace(out: Stdout, of: Pace) -> io::Result<()> {
@@ -101,12 +101,12 @@ fn refused(out: Stdout, r: Misread) -> io::Result<()> {
 
 fn found(out: Stdout, f: Found) -> io::Result<()> {
     match f {
-        Found::Command(c, next) => {
+        Ok(Some((c, next))) => {
             command(out, c)?;
             print!(out; ", next {next}")
         }
-        Found::Refused(r) => refused(out, r),
-        Found::End => print!(out; "nothing"),
+        Err(r) => refused(out, r),
+        Ok(None) => print!(out; "nothing"),
     }
 }
 

@@ -10,9 +10,7 @@ use borrow.Author.Tests.{leb-true, leb-false, ltb-false, lt-ltb}
 use lib.Dec.{leb, ltb, eqb}
 use lib.ListN.{length, take, drop, length-append, length-take, length-drop, drop_of_length-le}
 use lib.Seq.{take_at, drop-drop, length-take-le}
-use Rattle.std.specs.Prelude.{if◌then◌else◌}
-use Rattle.basics.specs.declared.Put.{Put}
-use Rattle.basics.specs.declared.Put.TheVariants.{Bytes, NoRoom}
+use Rattle.std.specs.Prelude.{if◌then◌else◌, None, Option, Some}
 use Rattle.basics.specs.Lay.{over, fits, laid_in, Laid}
 use Rattle.basics.proofs.Choice.{by}
 use Rattle.basics.proofs.Lists.{front_counted}
@@ -24,7 +22,8 @@ use Rattle.desk.specs.declared.Asked.TheVariants.{Wrong}
 use Rattle.station.specs.declared.Station.{Station}
 use Rattle.station.specs.declared.Replied.{Replied}
 use Rattle.station.specs.Serve.{Served, did_of, served_of, Replies}
-use Rattle.console.specs.Eaten.{Program, program, longer, ended_line, eaten_of, Keeps, Gathers, Memory, memory, Sound, Stands, Eats, Finishes}
+use Rattle.console.specs.declared.Memory.{Memory}
+use Rattle.console.specs.Eaten.{Program, program, longer, ended_line, eaten_of, Keeps, Gathers, memory, Sound, Stands, Eats, Finishes}
 
 -- bytes laid behind the first n are what stands there, and then they
 take_over : (xs : List ℕ) (n : ℕ) (line : List ℕ) → n + length xs ≤ length line → take (n + length xs) (over xs n line) ≡ take n line ++ xs
@@ -34,13 +33,13 @@ take_over xs n line h =
     take_at (take n line ++ xs) (drop (n + length xs) line) (n + length xs) (length-append (take n line) xs ∙ omega arith)
 
 -- which way laying goes
-abbrev bytes_in : Put → ℕ
-bytes_in (Bytes m) = m
-bytes_in NoRoom = 0
+abbrev bytes_in : Option ℕ → ℕ
+bytes_in (Some m) = m
+bytes_in None = 0
 
-abbrev is_bytes : Put → Bool
-is_bytes (Bytes m) = true
-is_bytes NoRoom = false
+abbrev is_bytes : Option ℕ → Bool
+is_bytes (Some m) = true
+is_bytes None = false
 
 record Fitted (xs : List ℕ) (n : ℕ) (line : List ℕ) (m : ℕ) (after : List ℕ) : Type 0 where
   room : n + length xs ≤ length line
@@ -51,28 +50,28 @@ record Unfitted (xs : List ℕ) (n : ℕ) (line : List ℕ) (after : List ℕ) :
   none : length line < n + length xs
   left : after ≡ line
 
-module _ (xs : List ℕ) (n : ℕ) (line : List ℕ) (put : Put) (after : List ℕ) (l : Laid xs n line put after) where
-  fitted : (m : ℕ) → put ≡ Bytes m → Fitted xs n line m after
+module _ (xs : List ℕ) (n : ℕ) (line : List ℕ) (put : Option ℕ) (after : List ℕ) (l : Laid xs n line put after) where
+  fitted : (m : ℕ) → put ≡ Some m → Fitted xs n line m after
   unfolding fits laid_in
   fitted m e = go (leb (n + length xs) (length line)) refl (sym e ∙ l.said) l.left
     where
-      go : (x : Bool) → leb (n + length xs) (length line) ≡ x → Bytes m ≡ (if x then Bytes (length xs) else NoRoom) → after ≡ (if x then over xs n line else line) → Fitted xs n line m after
+      go : (x : Bool) → leb (n + length xs) (length line) ≡ x → Some m ≡ (if x then Some (length xs) else None) → after ≡ (if x then over xs n line else line) → Fitted xs n line m after
       go true q p r = record { room = leb-true (n + length xs) (length line) q; size = ap bytes_in p; left = r }
       go false q p r = absurd (false≢true (sym (ap is_bytes p)))
 
-  unfitted : put ≡ NoRoom → Unfitted xs n line after
+  unfitted : put ≡ None → Unfitted xs n line after
   unfolding fits laid_in
   unfitted e = go (leb (n + length xs) (length line)) refl (sym e ∙ l.said) l.left
     where
-      go : (x : Bool) → leb (n + length xs) (length line) ≡ x → NoRoom ≡ (if x then Bytes (length xs) else NoRoom) → after ≡ (if x then over xs n line else line) → Unfitted xs n line after
+      go : (x : Bool) → leb (n + length xs) (length line) ≡ x → None ≡ (if x then Some (length xs) else None) → after ≡ (if x then over xs n line else line) → Unfitted xs n line after
       go true q p r = absurd (false≢true (ap is_bytes p))
       go false q p r = record { none = leb-false (n + length xs) (length line) q; left = r }
 
   module _ (w : length line ≡ 401) where
-    pub sum_fits : (m : ℕ) → put ≡ Bytes m → Fits w64 (n + m)
+    pub sum_fits : (m : ℕ) → put ≡ Some m → Fits w64 (n + m)
     sum_fits m e = let f = fitted m e in omega (arith, f.room, f.size)
 
-    pub more_kept : (m : ℕ) → put ≡ Bytes m → Gathers xs n line (n + m) after
+    pub more_kept : (m : ℕ) → put ≡ Some m → Gathers xs n line (n + m) after
     more_kept m e =
         let f = fitted m e in
         let room = f.room in
@@ -90,7 +89,7 @@ module _ (xs : List ℕ) (n : ℕ) (line : List ℕ) (put : Put) (after : List �
               };
         }
 
-    pub too_long : n ≤ 401 → put ≡ NoRoom → Gathers xs n line 401 after
+    pub too_long : n ≤ 401 → put ≡ None → Gathers xs n line 401 after
     too_long b e =
         let u = unfitted e in
         let none = u.none in
@@ -210,28 +209,28 @@ pub record Eating (start : Memory) (chunk : List ℕ) (from : ℕ) (a : Memory) 
   pub room : a.m + 80 * a.n ≤ 80 * (start.n + from)
   pub way : (s : Program) → Stands s start → Way s chunk from a
 
-module _ (start : Station) (kept : ℕ) (before blank chunk : List ℕ) where
-  pub begins : Sound (memory start kept before 0 blank) → Eating (memory start kept before 0 blank) chunk 0 (memory start kept before 0 blank)
-  begins a = record { sound = a; room = omega arith; way = λ s q. record { here = s; stands = q; same = refl } }
+module _ (start : Memory) (chunk : List ℕ) where
+  pub begins : Sound start → start.m ≡ 0 → Eating start chunk 0 start
+  begins a e = record { sound = a; room = omega arith; way = λ s q. record { here = s; stands = q; same = refl } }
 
-  module _ (from : ℕ) (c : Station) (n : ℕ) (line : List ℕ) (at : ℕ) (out : List ℕ) (r : Eating (memory start kept before 0 blank) chunk from (memory c n line at out)) where
-    pub chunk_over : length chunk ≤ from → Eats (eaten_of chunk) (memory start kept before 0 blank) (memory c n line at out)
+  module _ (from : ℕ) (a : Memory) (r : Eating start chunk from a) where
+    pub chunk_over : length chunk ≤ from → Eats (eaten_of chunk) start a
     unfolding eaten_of
     chunk_over h = record {
       sound = r.sound;
       stands = λ s q.
           let w = r.way s q in
-          subst (λ (x : Program). Stands x (memory c n line at out)) (rw (drop_of_length-le chunk h) at w.same) w.stands;
+          subst (λ (x : Program). Stands x a) (rw (drop_of_length-le chunk h) at w.same) w.stands;
     }
 
     -- a line begins, and has room for what it prints
-    pub kept_long : length line ≡ 401
+    pub kept_long : length a.line ≡ 401
     kept_long = r.sound.long
 
-    pub kept_within : n ≤ 401
+    pub kept_within : a.n ≤ 401
     kept_within = r.sound.within
 
-    pub still_sound : (more : List ℕ) (m : ℕ) (gathered : List ℕ) → Gathers more n line m gathered → Sound (memory c m gathered at out)
+    pub still_sound : (more : List ℕ) (m : ℕ) (gathered : List ℕ) → Gathers more a.n a.line m gathered → Sound (memory a.station m gathered a.m a.out)
     still_sound more m gathered g = record { manned = r.sound.manned; long = g.long; within = g.within; size = r.sound.size; filled = r.sound.filled }
 
     -- the line at this place of the chunk, and behind its end
@@ -256,31 +255,31 @@ module _ (start : Station) (kept : ℕ) (before blank chunk : List ℕ) where
       past_line here true q = rw behind
       past_line here false q = let over = ltb-false end (length chunk) q in rw (drop_of_length-le chunk {i = end + 1} (omega arith))
 
-      pub line_room : (m : ℕ) (gathered : List ℕ) → kept ≤ 401 → length chunk ≤ 2048 → Gathers (take (end - from) (drop from chunk)) n line m gathered → at + 80 * (m + 1) ≤ 196608
+      pub line_room : (m : ℕ) (gathered : List ℕ) → start.n ≤ 401 → length chunk ≤ 2048 → Gathers (take (end - from) (drop from chunk)) a.n a.line m gathered → a.m + 80 * (m + 1) ≤ 196608
       line_room m gathered k l g =
-          let u : at + 80 * n ≤ 80 * (kept + from) = r.room in
+          let u : a.m + 80 * a.n ≤ 80 * (start.n + from) = r.room in
           let few = g.few in
           let part = length-take (end - from) (drop from chunk) in
           let b = e.behind in
           let i = e.inside in
           omega arith
 
-      pub again : (m : ℕ) (gathered : List ℕ) (b : Bool) (k : Station) (j p : ℕ) (after : List ℕ) →
-          Gathers (take (end - from) (drop from chunk)) n line m gathered → b ≡ ltb end (length chunk) → Finishes b (memory c m gathered at out) (memory k j gathered p after) →
-          Eating (memory start kept before 0 blank) chunk (end + 1) (memory k j gathered p after)
-      again m gathered b k j p after g q f = record {
+      pub again : (m : ℕ) (gathered : List ℕ) (b : Bool) (k : Memory) →
+          Gathers (take (end - from) (drop from chunk)) a.n a.line m gathered → b ≡ ltb end (length chunk) → Finishes b (memory a.station m gathered a.m a.out) k →
+          Eating start chunk (end + 1) k
+      again m gathered b k g q f = record {
         sound = f.eats.sound;
         room =
-            let u : at + 80 * n ≤ 80 * (kept + from) = r.room in
-            let v : p + 80 * j ≤ at + 80 * (m + 1) = f.room in
+            let u : a.m + 80 * a.n ≤ 80 * (start.n + from) = r.room in
+            let v : k.m + 80 * k.n ≤ a.m + 80 * (m + 1) = f.room in
             let few = g.few in
             let part = length-take (end - from) (drop from chunk) in
             let y = e.behind in
-            let w : p + 80 * j ≤ 80 * (kept + (end + 1)) = omega arith in
+            let w : k.m + 80 * k.n ≤ 80 * (start.n + (end + 1)) = omega arith in
             w;
         way = λ s h.
             let w = r.way s h in
-            let whole : Stands (longer (line_of rest) w.here) (memory c m gathered at out)
+            let whole : Stands (longer (line_of rest) w.here) (memory a.station m gathered a.m a.out)
             = record { station = w.stands.station; keeps = rw the_line at (g.keeps w.here.kept w.stands.keeps); printed = w.stands.printed } in
             record {
               here = ended_line b (longer (line_of rest) w.here);

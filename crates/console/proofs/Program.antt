@@ -1,10 +1,10 @@
 -- Laws of `specs/Eaten`: that chunks don't matter, the input's end, a read, and the whole program.
-use mathlib.Core.Path.{◌≡◌, refl, sym, ap, subst, ◌∙◌}
+use mathlib.Core.Path.{◌≡◌, refl, sym, ap, ◌∙◌}
 use mathlib.Core.Bool.{Bool, true, false, ◌||◌}
 use mathlib.Core.List.{List, [], ◌∷◌, ◌++◌, append-nil, append_assoc}
 use Prim.Native.Nat.{ℕ, ◌+◌, ◌≤◌}
 use native.Mathlib.Omega.{arith}
-use borrow.Author.Tests.{ne_eqb, eqb-true, eqb-false, le-leb}
+use borrow.Author.Tests.{eqb-true, eqb-false, le-leb}
 use lib.Dec.{eqb, leb, ltb}
 use lib.ListN.{length, take, length-append, length-take}
 use Rattle.std.proofs.Common.{◌<◌, min, Option, Some, None, Result, Ok, Err, is_ok, OnOk, IfSome}
@@ -17,7 +17,8 @@ use Rattle.desk.specs.declared.Desk.{Desk}
 use Rattle.station.specs.declared.Station.{Station}
 use Rattle.console.specs.declared.End.{End}
 use Rattle.station.specs.Serve.{served_of, Starts}
-use Rattle.console.specs.Eaten.{Program, program, longer, ended_line, eaten_of, last_of, opened, program_of, brought, nothing, read_of, Keeps, Memory, memory, Sound, Stands, Eats, Finishes, Reads, SomeRead, ends, Ended, Succeeded}
+use Rattle.console.specs.declared.Memory.{Memory}
+use Rattle.console.specs.Eaten.{Program, program, longer, ended_line, eaten_of, last_of, opened, program_of, brought, nothing, read_of, Keeps, memory, Sound, Stands, Eats, Finishes, SomeRead, ends, Ended, Succeeded}
 
 -- Input in any chunks does what it does at once.
 pub in_any_chunks : (xs ys : List ℕ) (s : Program) → eaten_of (xs ++ ys) s ≡ eaten_of ys (eaten_of xs s)
@@ -56,37 +57,33 @@ printed_in_any_chunks xs ys s = ap (λ (u : Program). u.printed) (in_any_chunks 
 some_kept : (kept : List ℕ) (n : ℕ) (line : List ℕ) → Keeps kept n line → ltb 0 n ≡ ltb 0 (length kept)
 some_kept kept n line h = let c = h.count in by_order 0 n 0 (length kept) (λ k. omega arith) (λ k. omega arith)
 
-pub last_served : (c k : Station) (n m p : ℕ) (line out after : List ℕ) (some : Bool) → some ≡ ltb 0 n → Finishes some (memory c n line 0 out) (memory k m line p after) → Eats last_of (memory c n line 0 out) (memory k m line p after)
-last_served c k n m p line out after some e x = record {
-  sound = x.eats.sound;
-  stands = λ s h. rw (e, some_kept s.kept n line h.keeps) at (x.eats.stands s h);
-}
-
 -- what a read brought, or the input's end
-module _ (bytes : List ℕ) (a b : Memory) where
-  pub the_end : length bytes ≡ 0 → Eats last_of a b → Reads bytes a b true
+module _ (bytes : List ℕ) (a b : Memory) (none : Bool) (e : none ≡ nothing bytes) where
+  pub the_end : none ≡ true → (some : Bool) → some ≡ ltb 0 a.n → Finishes some a b → Eats (read_of bytes) a b
   unfolding read_of
-  the_end e r = let t : nothing bytes ≡ true = rw e in record {
-    last = sym t;
-    eats = record { sound = r.sound; stands = λ s h. rw t (r.stands s h) };
+  the_end t some q x = record {
+    sound = x.eats.sound;
+    stands = λ s h. rw (sym e ∙ t) (rw (q, some_kept s.kept a.n a.line h.keeps) at (x.eats.stands s h));
   }
 
-  pub some_bytes : (length bytes ≡ 0 → ⊥) → Eats (eaten_of bytes) a b → Reads bytes a b false
+  pub some_bytes : none ≡ false → Eats (eaten_of bytes) a b → Eats (read_of bytes) a b
   unfolding read_of
-  some_bytes n r = let t : nothing bytes ≡ false = ne_eqb (length bytes) 0 n in record {
-    last = sym t;
-    eats = record { sound = r.sound; stands = λ s h. rw t (r.stands s h) };
-  }
+  some_bytes t r = record { sound = r.sound; stands = λ s h. rw (sym e ∙ t) (r.stands s h) }
 
 -- what a read brought, by its answer
-module _ {E : Type 0} (got : Result ℕ E) (chunk : List ℕ) (a b : Memory) (over : Bool) where
-  pub brought_some : (n m : ℕ) → got ≡ Ok n → m ≡ min n (length chunk) → Reads (take m chunk) a b over → Reads (brought got chunk) a b over
+module _ {E : Type 0} (got : Result ℕ E) (chunk : List ℕ) where
+  pub brought_some : (n m : ℕ) → got ≡ Ok n → m ≡ min n (length chunk) → take m chunk ≡ brought got chunk
   unfolding brought
-  brought_some n m o e r = rw o (rw (e, take_min) at r)
+  brought_some n m o e = rw (o, e, take_min)
 
-  pub brought_none : (e : E) → got ≡ Err e → Reads [] a b over → Reads (brought got chunk) a b over
+  pub brought_none : (e : E) → got ≡ Err e → [] ≡ brought got chunk
   unfolding brought
-  brought_none e o r = rw o r
+  brought_none e o = rw o
+
+pub brought_short : {E : Type 0} (got : Result ℕ E) (chunk bytes : List ℕ) → bytes ≡ brought got chunk → length chunk ≡ 2048 → length bytes ≤ 2048
+unfolding brought
+brought_short (Ok n) chunk bytes e l = rw e (omega (arith, length-take n chunk))
+brought_short (Err x) chunk bytes e l = rw e (omega arith)
 
 -- known bytes, taken from and added to in turn
 consumes_none : (a b : Option (List ℕ)) → KeepsBytes a b → Consumes a b []
@@ -116,22 +113,22 @@ appends_none (Some xs) = sym (append-nil xs)
 
 -- a read's answer, and what the reader has left
 pub some_read :
-    {E : Type 0} (got : Result ℕ E) (chunk : List ℕ) (rest rest' : Option (List ℕ)) (a b : Memory) (over read : Bool) → 0 < length chunk → ReadConsumes rest rest' got chunk →
-    Reads (brought got chunk) a b over → read ≡ is_ok got → SomeRead rest rest' a b over read
+    {E : Type 0} (got : Result ℕ E) (chunk bytes : List ℕ) (rest rest' : Option (List ℕ)) (a b : Memory) (over read : Bool) → 0 < length chunk → ReadConsumes rest rest' got chunk → bytes ≡ brought got chunk →
+    Eats (read_of bytes) a b → over ≡ nothing bytes → read ≡ is_ok got → SomeRead rest rest' a b over read
 unfolding brought
-some_read (Ok n) chunk rest rest' a b over read w h r e = record {
-  bytes = take n chunk;
-  reads = r;
-  consumed = h.0;
-  whole = λ o q. h.1 (none_asked (sym r.last ∙ o)) w;
+some_read (Ok n) chunk bytes rest rest' a b over read w h f r l e = record {
+  bytes = bytes;
+  reads = record { eats = r; last = l };
+  consumed = rw f h.0;
+  whole = λ o q. h.1 (none_asked (sym (l ∙ ap nothing f) ∙ o)) w;
 }
   where
     none_asked : nothing (take n chunk) ≡ true → n ≡ 0
     none_asked q = let z : length (take n chunk) ≡ 0 = eqb-true (length (take n chunk)) 0 q in let l = length-take n chunk in omega arith
-some_read (Err x) chunk rest rest' a b over read w h r e = record {
-  bytes = [];
-  reads = r;
-  consumed = consumes_none rest rest' h;
+some_read (Err x) chunk bytes rest rest' a b over read w h f r l e = record {
+  bytes = bytes;
+  reads = record { eats = r; last = l };
+  consumed = rw f (consumes_none rest rest' h);
   whole = λ o q. absurd (failed (sym e ∙ q));
 }
   where
@@ -152,12 +149,9 @@ pub record Served (desk : Desk) (rest rest' held held' : Option (List ℕ)) (k :
   pub consumed : Consumes rest rest' input
   pub added : Appends held held' (eaten_of input (opened desk)).printed
 
-same_desk : (desk : Desk) (k : Station) → Starts desk k → k.desk ≡ desk
-same_desk desk k s = ap (λ (x : Station). x.desk) s.is
-
-opens_so : (desk : Desk) (rest held : Option (List ℕ)) (k : Station) (line out : List ℕ) → Starts desk k → length line ≡ 401 → length out ≡ 196608 → Served desk rest rest held held k 0 line out 0
+pub opens : (desk : Desk) (rest held : Option (List ℕ)) (k : Station) (line out : List ℕ) → Starts desk k → length line ≡ 401 → length out ≡ 196608 → Served desk rest rest held held k 0 line out 0
 unfolding eaten_of
-opens_so desk rest held k line out s w v = record {
+opens desk rest held k line out s w v = record {
   sound = record { manned = s.manned; long = w; within = omega arith; size = v; filled = omega arith };
   input = [];
   counted = omega arith;
@@ -166,17 +160,13 @@ opens_so desk rest held k line out s w v = record {
   added = appends_none held;
 }
 
-pub opens : (desk : Desk) (rest held : Option (List ℕ)) (k : Station) (line out : List ℕ) → Starts desk k → length line ≡ 401 → length out ≡ 196608 → Served k.desk rest rest held held k 0 line out 0
-opens desk rest held k line out s w v = subst (λ (d : Desk). Served d rest rest held held k 0 line out 0) (sym (same_desk desk k s)) (opens_so desk rest held k line out s w v)
+-- it ends: the input is over, or the last write failed
+over_ends : (over wrote : Bool) → over ≡ true → ends over wrote ≡ true
+over_ends over wrote e = rw e
 
-not_over : (over wrote : Bool) → ends over wrote ≡ false → over ≡ false
-not_over true wrote e = e
-not_over false wrote e = refl
-
-all_written : (over wrote : Bool) → ends over wrote ≡ false → wrote ≡ true
-all_written true wrote e = let f : true ≡ false = e in cc
-all_written false true e = refl
-all_written false false e = let f : true ≡ false = e in cc
+unwritten_ends : (over wrote : Bool) → wrote ≡ false → ends over wrote ≡ true
+unwritten_ends true wrote e = refl
+unwritten_ends false wrote e = rw e
 
 not_written : (wrote : Bool) → ends false wrote ≡ true → wrote ≡ true → ⊥
 not_written true e q = let f : false ≡ true = e in cc
@@ -215,14 +205,14 @@ module _
   more_added : Appends held' held″ (take p out') → Appends held held″ ((eaten_of s.input (opened desk)).printed ++ take p out')
   more_added w = appends_more held held' held″ (eaten_of s.input (opened desk)).printed (take p out') s.added w
 
-  pub goes_on : (wrote ending : Bool) → (wrote ≡ true → Appends held' held″ (take p out')) → ending ≡ ends over wrote → ending ≡ false → Served desk rest rest″ held held″ k j line' out' (reads + 1)
-  goes_on wrote ending w g e = let o = not_over over wrote (sym g ∙ e) in let u = eaten_more o in record {
+  pub goes_on : (wrote : Bool) → (wrote ≡ true → Appends held' held″ (take p out')) → over ≡ false → wrote ≡ true → Served desk rest rest″ held held″ k j line' out' (reads + 1)
+  goes_on wrote w o e = let u = eaten_more o in record {
     sound = let a = x.reads.eats.sound in record { manned = a.manned; long = a.long; within = a.within; size = a.size; filled = omega arith };
     input = s.input ++ x.bytes;
     counted = one_more o;
     stands = rw more_input (record { station = u.station; keeps = u.keeps; printed = refl });
     consumed = more_consumed;
-    added = rw more_input (rw u.printed at (more_added (w (all_written over wrote (sym g ∙ e)))));
+    added = rw more_input (rw u.printed at (more_added (w e)));
   }
 
   -- the station at the program's end, and what it prints there
@@ -257,14 +247,12 @@ module _
   all_added : over ≡ true → Appends held' held″ (take p out') → Appends held held″ (last_of (eaten_of s.input (opened desk))).printed
   all_added o w = rw ((at_the_end o).printed, last_printed (eaten_of s.input (opened desk))) at (more_added w)
 
-  ends_so :
-      (wrote ending : Bool) → (wrote ≡ true → Appends held' held″ (take p out')) → ending ≡ ends over wrote → ending ≡ true →
-      Ended desk rest rest″ held held″ (record { station = k; over = over; read = read; wrote = wrote; reads = reads })
+  ended : (wrote : Bool) → (wrote ≡ true → Appends held' held″ (take p out')) → ends over wrote ≡ true → Ended desk rest rest″ held held″ (record { station = k; over = over; read = read; wrote = wrote; reads = reads })
   unfolding program_of
-  ends_so wrote ending w g e = go over refl
+  ended wrote w e = go over refl
     where
       why : (ends over wrote || leb 18446744073709551615 reads) ≡ true
-      why = rw (sym g ∙ e)
+      why = rw e
 
       go : (b : Bool) → over ≡ b → Ended desk rest rest″ held held″ (record { station = k; over = over; read = read; wrote = wrote; reads = reads })
       go true o = record {
@@ -283,38 +271,30 @@ module _
         reason = why;
         consumed = more_consumed;
         whole = λ q. let f : false ≡ true = sym o ∙ q in cc;
-        written = λ q. absurd (not_written wrote (rw o at (sym g ∙ e)) q);
+        written = λ q. absurd (not_written wrote (rw o at e) q);
       }
 
+  module _ (wrote : Bool) (w : wrote ≡ true → Appends held' held″ (take p out')) where
+    pub ended_over : over ≡ true → Ended desk rest rest″ held held″ (record { station = k; over = over; read = read; wrote = wrote; reads = reads })
+    ended_over o = ended wrote w (over_ends over wrote o)
+
+    pub ended_unwritten : wrote ≡ false → Ended desk rest rest″ held held″ (record { station = k; over = over; read = read; wrote = wrote; reads = reads })
+    ended_unwritten q = ended wrote w (unwritten_ends over wrote q)
+
 -- no more reads are made
-stops_so :
+pub no_more_reads :
     (desk : Desk) (rest rest' held held' : Option (List ℕ)) (k : Station) (n : ℕ) (line out : List ℕ) (reads : ℕ) → Served desk rest rest' held held' k n line out reads → 18446744073709551615 ≤ reads →
-    Ended desk rest rest' held held' (record { station = k; over = false; read = true; wrote = true; reads = reads })
+    Ended desk rest rest' held held' (record { station = k; over = false; read = true; wrote = true; reads = 18446744073709551615 })
 unfolding program_of
-stops_so desk rest rest' held held' k n line out reads s h = record {
+no_more_reads desk rest rest' held held' k n line out reads s h = record {
   input = s.input;
   station = s.stands.station;
-  reads = s.counted;
-  reason = le-leb 18446744073709551615 reads h;
+  reads = let c = s.counted in omega arith;
+  reason = le-leb 18446744073709551615 18446744073709551615 (omega arith);
   consumed = s.consumed;
   whole = λ q. let f : false ≡ true = q in cc;
   written = λ q. s.added;
 }
-
--- the program's desk is that of the station it began with
-module _ (desk : Desk) (first : Station) (b : Starts desk first) where
-  pub ended :
-      (rest rest' rest″ held held' held″ : Option (List ℕ)) (c k : Station) (n j p : ℕ) (line out line' out' : List ℕ) (over read : Bool) (reads : ℕ) →
-      Served first.desk rest rest' held held' c n line out reads → SomeRead rest' rest″ (memory c n line 0 out) (memory k j line' p out') over read → (wrote ending : Bool) →
-      (wrote ≡ true → Appends held' held″ (take p out')) → ending ≡ ends over wrote → ending ≡ true →
-      Ended desk rest rest″ held held″ (record { station = k; over = over; read = read; wrote = wrote; reads = reads })
-  ended rest rest' rest″ held held' held″ c k n j p line out line' out' over read reads s x wrote ending w g e =
-      rw (same_desk desk first b) at (ends_so first.desk rest rest' rest″ held held' held″ c k n j p line out line' out' over read reads s x wrote ending w g e)
-
-  pub no_more_reads :
-      (rest rest' held held' : Option (List ℕ)) (k : Station) (n : ℕ) (line out : List ℕ) (reads : ℕ) → Served first.desk rest rest' held held' k n line out reads → 18446744073709551615 ≤ reads →
-      Ended desk rest rest' held held' (record { station = k; over = false; read = true; wrote = true; reads = reads })
-  no_more_reads rest rest' held held' k n line out reads s h = rw (same_desk desk first b) at (stops_so first.desk rest rest' held held' k n line out reads s h)
 
 -- "It reads lines .. It prints": all of the reader's bytes, and what they print
 pub whole_program :

@@ -5,6 +5,7 @@ use Rattle.desk.specs.declared.Desk.{Desk}
 use Rattle.station.specs.declared.Station.{Station}
 use Rattle.station.specs.Serve.{at_start, served_of, Manned}
 use Rattle.console.specs.declared.End.{End}
+use Rattle.console.specs.declared.Memory.{Memory}
 
 -- the program between two bytes: its station, the bytes since the last LF, and what it has printed
 pub record Program : Type 0 where
@@ -64,15 +65,12 @@ pub record Gathers (more : List ℕ) (n : ℕ) (before : List ℕ) (r : ℕ) (af
   pub keeps : (kept : List ℕ) → Keeps kept n before → Keeps (kept ++ more) r after
 
 -- the program's memory: a station, an array that begins with n bytes of a line, and one that begins with m bytes to be written
-pub record Memory : Type 0 where
-  pub station : Station
-  pub n : ℕ
-  pub line : List ℕ
-  pub m : ℕ
-  pub out : List ℕ
-
 abbrev pub memory : Station → ℕ → List ℕ → ℕ → List ℕ → Memory
 memory s n line m out = record { station = s; n = n; line = line; m = m; out = out }
+
+-- the same with nothing to be written
+abbrev pub emptied : Memory → Memory
+emptied a = memory a.station a.n a.line 0 a.out
 
 -- one that the program can come to
 pub record Sound (a : Memory) : Type 0 where

@@ -1,13 +1,14 @@
 -- Laws of `trim`: what it leaves of the last digits of a number.
-use mathlib.Core.Path.{◌≡◌, refl, ◌∙◌}
+use mathlib.Core.Path.{◌≡◌, refl, ap, ◌∙◌}
 use mathlib.Core.List.{List, [], ◌∷◌}
-use Prim.Native.Nat.{ℕ, zero, suc, ◌+◌, ◌/◌, ◌%◌, ◌^◌, ◌≤◌, ◌<◌}
-use native.Mathlib.Nat.{div-eq_of_lt, pow-le-pow_right, suc-add, zero-add}
+use Prim.Native.Nat.{ℕ, zero, suc, ◌+◌, ◌-◌, ◌*◌, ◌/◌, ◌%◌, ◌^◌, ◌≤◌, ◌<◌}
+use native.Mathlib.Nat.{div-eq_of_lt, div-lt_iff_lt-mul, le-div_iff_mul-le, one-le-pow, pow-le-pow_right, pow-succ', suc-add, zero-add}
+use native.Mathlib.Numerals.{add-one}
 use native.Mathlib.Omega.{arith}
 use lib.ListN.{length}
 use Rattle.basics.specs.Bytes.{zero_digit}
 use Rattle.basics.proofs.Rules.{tests}
-use Rattle.decimal.specs.Digits.{last_digits, trim}
+use Rattle.decimal.specs.Digits.{last_digits, long_of, trim}
 use Rattle.decimal.proofs.Digits.{last_first, length_last}
 
 trim_other : (d : ℕ) (ds : List ℕ) → (d ≡ zero_digit → ⊥) → trim (d ∷ ds) ≡ d ∷ ds
@@ -35,3 +36,17 @@ trim_full zero n h f = refl
 trim_full (suc i) n h f =
     let some = f (omega arith) in
     rw (last_first (suc i) n) (trim_other (zero_digit + n / 10 ^ suc i % 10) (last_digits (suc i) n) (λ e. omega arith))
+
+-- a number of 64 bits with k digits behind its first
+pub long_digits : (n k : ℕ) → 10 ^ k ≤ n → n < 10 * 10 ^ k → k < 20 → long_of n ≡ last_digits (k + 1) n
+unfolding long_of
+long_digits n k low high few =
+    let all : 20 ≡ 19 - k + suc k = omega arith in
+    let first : n / 10 ^ k ≤ 9 = omega (arith, (div-lt_iff_lt-mul (one-le-pow k 10 (omega arith))).1 high) in
+    rw (add-one k)
+    (ap (λ (j : ℕ). trim (last_digits j n)) all ∙ trim_idle (19 - k) (suc k) n (omega arith) (rw (pow-succ' 10 k) high)
+    ∙ trim_full k n first (λ g. (le-div_iff_mul-le (one-le-pow k 10 (omega arith))).1 (omega arith)))
+
+pub long_zero : (n : ℕ) → n ≡ 0 → long_of n ≡ last_digits 1 n
+unfolding long_of trim last_digits
+long_zero n e = rw e

@@ -4,10 +4,8 @@ use mathlib.Core.List.{List, [], ◌∷◌, append-nil}
 use Prim.Native.Nat.{ℕ, zero, suc, ◌+◌, ◌/◌, ◌^◌, ◌≤◌, ◌<◌}
 use native.Mathlib.Nat.{div-one, div-le_self}
 use native.Mathlib.Omega.{arith}
-use mir.Syntax.{w32}
-use mir.Val.{Fits}
 use lib.ListN.{length}
-use Rattle.basics.specs.declared.Put.{Put}
+use Rattle.std.specs.Prelude.{Option}
 use Rattle.basics.specs.Bytes.{point}
 use Rattle.basics.specs.Lay.{Laid}
 use Rattle.decimal.specs.Digits.{last_digits, digits_of, long_of, fixed_of}
@@ -58,10 +56,9 @@ unfolding written_of behind fixed_of
 written_short zero n h = written_whole n ∙ short n h
 written_short (suc d) n h = rw (short (n / 10 ^ suc d) (omega (arith, div-le_self n (10 ^ suc d))))
 
-module _ (d n at : ℕ) (before after : List ℕ) (r : Put) where
-  pub laid_short : Fits w32 n → Laid (written_of d n) at before r after → Laid (fixed_of d n) at before r after
-  laid_short f l = rw (written_short d n (omega (arith, f.fits))) at l
+module _ (d n at : ℕ) (before after : List ℕ) (r : Option ℕ) (l : Laid (written_of d n) at before r after) where
+  pub laid_long : d ≡ 0 → Laid (long_of n) at before r after
+  laid_long e = rw (written_whole n) at (rw e at l)
 
-module _ (n at : ℕ) (before after : List ℕ) (r : Put) where
-  pub laid_long : Laid (written_of 0 n) at before r after → Laid (long_of n) at before r after
-  laid_long l = rw (written_whole n) at l
+  pub laid_short : n < 2 ^ 32 → Laid (fixed_of d n) at before r after
+  laid_short h = rw (written_short d n (omega arith)) at l

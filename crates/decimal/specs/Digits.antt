@@ -2,7 +2,7 @@
 use Rattle.std.specs.Prelude.{ℕ, zero, suc, ◌+◌, ◌/◌, ◌%◌, ◌^◌, List, [], ◌∷◌, ◌++◌, eqb, if◌then◌else◌}
 use Rattle.basics.specs.Bytes.{zero_digit, point}
 use Rattle.decimal.specs.declared.Decimals.{Decimals}
-use Rattle.decimal.specs.declared.Decimals.TheVariants.{One, Three}
+use Rattle.decimal.specs.declared.Decimals.TheVariants.{Zero, One, Three}
 
 -- the last k digits of n, the highest first, leading zeros too
 unfoldable pub last_digits : ℕ → ℕ → List ℕ
@@ -23,8 +23,9 @@ digits_of n = trim (last_digits 10 n)
 unfoldable pub long_of : ℕ → List ℕ
 long_of n = trim (last_digits 20 n)
 
--- "increments a second one decimal, µL three"
+-- whole numbers have none; "increments a second one decimal, µL three"
 abbrev pub count_of : Decimals → ℕ
+count_of Zero = 0
 count_of One = 1
 count_of Three = 3
 

@@ -1,4 +1,4 @@
--- What the one writer writes, over the number of decimals; no public contract cites it.
+-- What the one writer writes, over the number of decimals and for every number of 64 bits: `fixed_of` for those of 32 bits, `long_of` for whole ones (`put`).
 use Rattle.std.specs.Prelude.{ℕ, zero, suc, ◌+◌, ◌/◌, ◌^◌, List, [], ◌∷◌, ◌++◌}
 use Rattle.basics.specs.Bytes.{point}
 use Rattle.decimal.specs.Digits.{last_digits, long_of}

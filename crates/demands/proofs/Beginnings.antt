@@ -5,23 +5,21 @@ use Prim.Native.Nat.{ℕ}
 use borrow.Author.Tests.{eqb-true}
 use lib.Dec.{ltb, leb, eqb}
 use lib.ListN.{take}
+use Rattle.std.specs.Prelude.{Err, None, Ok, Option, Result, Some}
+use Rattle.command.specs.declared.refusal.Refusal.{Refusal}
+use Rattle.command.specs.Found.{Found}
+use Rattle.buffer.specs.declared.course.Course.{Course}
 use Rattle.basics.proofs.Choice.{by}
 use Rattle.settings.specs.declared.Volume.{Volume}
 use Rattle.settings.specs.Units.{goal_of, ticks_of, millionths_of}
 use Rattle.command.specs.declared.Command.{Command}
 use Rattle.command.specs.declared.Command.TheVariants as C
 use Rattle.command.specs.declared.Way.{Way}
-use Rattle.command.specs.declared.Found.{Found}
-use Rattle.command.specs.declared.Found.TheVariants as F
 use Rattle.command.specs.Command.{command_at}
-use Rattle.level.specs.declared.Pressure.{Pressure}
-use Rattle.level.specs.declared.Pressure.TheVariants.{Beyond, Counts}
 use Rattle.level.specs.declared.Search.{Search}
 use Rattle.level.specs.Level.{begun}
 use Rattle.motion.specs.declared.Sense.{Sense}
 use Rattle.motion.specs.declared.Body.{Body}
-use Rattle.motion.specs.declared.Target.{Target}
-use Rattle.motion.specs.declared.Target.TheVariants.{At, Outside}
 use Rattle.motion.specs.declared.Activity.{Activity}
 use Rattle.motion.specs.declared.Activity.TheVariants.{Initialising, Moving, Delaying, Approaching, Searching, Ejecting, Between}
 use Rattle.motion.specs.declared.Effect.{Effect}
@@ -34,7 +32,6 @@ use Rattle.motion.proofs.Moves.{move_by_lem, eject_by_lem, ejected_by, approache
 use Rattle.buffer.specs.declared.course.State.{State}
 use Rattle.buffer.specs.declared.course.State.TheVariants.{Empty, Stored, Running, Stopped, Done}
 use Rattle.buffer.specs.declared.course.Loops.{Loops}
-use Rattle.buffer.specs.declared.course.Went.{Went}
 use Rattle.buffer.specs.Course.{reached}
 use Rattle.machine.specs.declared.step.Core.{Core}
 use Rattle.machine.specs.declared.step.Stepped.{Stepped}
@@ -78,16 +75,16 @@ TurnBegins t = EffectBegins t.next
 
 -- a command that is taken
 module _ (b : Body) where
-  aimed_begins : (t : Target) (way : Way) (v : Volume) → TurnBegins (aimed t way v b)
+  aimed_begins : (t : Option ℕ) (way : Way) (v : Volume) → TurnBegins (aimed t way v b)
   unfolding aimed set_out
-  aimed_begins (At exact) way v = by EffectBegins (eqb b.plunger (goal_of exact)) (λ h. tt) (λ h. tt)
-  aimed_begins Outside way v = tt
+  aimed_begins (Some exact) way v = by EffectBegins (eqb b.plunger (goal_of exact)) (λ h. tt) (λ h. tt)
+  aimed_begins None way v = tt
 
-  zeroed_begins : (here : Bool) (p : Pressure) → TurnBegins (zeroed_of here p b)
+  zeroed_begins : (here : Bool) (p : Option ℕ) → TurnBegins (zeroed_of here p b)
   unfolding zeroed_of approach_of
-  zeroed_begins here Beyond = tt
-  zeroed_begins true (Counts z) = refl
-  zeroed_begins false (Counts z) =
+  zeroed_begins here None = tt
+  zeroed_begins true (Some z) = refl
+  zeroed_begins false (Some z) =
       let p2 = b.settings.detection.place in
       by EffectBegins (eqb b.plunger p2) (λ h. ap (λ (p : ℕ). begun p z) (sym (eqb-true b.plunger p2 h))) (λ h. tt)
 
@@ -120,7 +117,7 @@ module _ (b : Body) where
   onward_begins x Between none = tt
 
 module _ (c : Core) where
-  abbrev WentBegins : Went → Type 0
+  abbrev WentBegins : Result Course Refusal → Type 0
   WentBegins g = Begins (went_of g c.body c.course).core
 
   reached_begins : (b : Body) (at : ℕ) (l : Loops) → Begins (core b (reached at l c.course))
@@ -138,9 +135,9 @@ module _ (c : Core) where
 
   taken_begins : (x : Sense) (f : Found) → Begins (taken_of x f c).next.core
   unfolding taken_of
-  taken_begins x (F.Command k next) = applied_begins (effect_of x k c.body).next next (effect_begins c.body x k)
-  taken_begins x (F.Refused m) = tt
-  taken_begins x F.End = reached_begins c.body c.course.at c.course.loops
+  taken_begins x (Ok (Some (k, next))) = applied_begins (effect_of x k c.body).next next (effect_begins c.body x k)
+  taken_begins x (Err m) = tt
+  taken_begins x (Ok None) = reached_begins c.body c.course.at c.course.loops
 
   -- what is in progress after a tick, where no search was before it
   active_begins : (x : State) (w : Around) → c.course.state ≡ x → ((g : Search) → x ≡ Running (Searching g) → ⊥) → Begins (active_of x w c).next.core

@@ -6,17 +6,18 @@ use Prim.Native.Nat.{ℕ}
 use contract.Lifetimes.{Lfts}
 use denote.Ref.{Bor}
 use denote.MutBor.{MutBor}
+use Rattle.std.specs.Prelude.{Result}
+use Rattle.pipettor.specs.declared.address.S2.{S2}
 use Rattle.line.specs.declared.Framing.{Framing}
 use Rattle.motion.specs.declared.Sense.{Sense}
 use Rattle.pipettor.specs.declared.address.Address.{Address}
-use Rattle.pipettor.specs.declared.address.Given.{Given}
 use Rattle.pipettor.specs.declared.Controller.{Controller}
 use Rattle.pipettor.specs.declared.Reply.{Reply}
 use Rattle.pipettor.specs.declared.Listened.{Listened}
 use Rattle.pipettor.specs.declared.Ticked.{Ticked}
 use Rattle.pipettor.specs.declared.Ran.{Ran}
 use Rattle.pipettor.specs.Valid.{Valid}
-use Rattle.pipettor.proofs.address.Address.of.Reads as Of
+use Rattle.pipettor.proofs.address.AddressTryFromU32.try_from.Reads as Of
 use Rattle.pipettor.proofs.Controller.fresh.Reads as Fresh
 use Rattle.pipettor.proofs.Controller.byte.Reads as Byte
 use Rattle.pipettor.proofs.Controller.listen.Reads as Listen
@@ -41,7 +42,7 @@ pub record Says (asked asks ensured ensures : Type 0) : Type 1 where
   pub ensured_is : ensured ≡ ensures
 
 module _ (κs : Lfts 0) where
-  pub of_says : (n : ℕ) (r : Given) → Says (Of.Asked κs (n, tt)) (Unit {0}) (Of.Learnt κs (n, tt) r (n, tt)) (GivenEnsures n r)
+  pub of_says : (n : ℕ) (r : Result Address S2) → Says (Of.Asked κs (n, tt)) (Unit {0}) (Of.Learnt κs (n, tt) r (n, tt)) (GivenEnsures n r)
   of_says n r = record { asked_is = refl; ensured_is = refl }
 
   pub fresh_says : (f : Framing) (a : Address) (r : Controller) → Says (Fresh.Asked κs (f, (a, tt))) (Unit {0}) (Fresh.Learnt κs (f, (a, tt)) r (f, (a, tt))) (FreshEnsures f a r)

@@ -8,14 +8,19 @@ use borrow.Author.Tests.{lt-ltb, le-ltb, ltb-false}
 use lib.Dec.{ltb}
 use lib.ListN.{length, drop}
 use lib.Seq.{drop_at}
+use Rattle.std.specs.Prelude.{Err, None, Ok, Option, Result, Some}
+use Rattle.pipettor.specs.declared.address.S2.{S2}
+use Rattle.pipettor.specs.Said.{Said, s1, s2}
+use Rattle.machine.specs.declared.S3.{S3}
+use Rattle.machine.specs.Used.{s3}
+use Rattle.line.specs.declared.Report.{Report}
+use Rattle.command.specs.Verdict.{Verdict}
 use Rattle.basics.specs.Lay.{over}
 use Rattle.basics.specs.Exactly.{Exactly}
 use Rattle.basics.proofs.Choice.{by}
 use Rattle.basics.proofs.Over.{length_over}
 use Rattle.command.specs.declared.refusal.Refusal.{Refusal}
 use Rattle.command.specs.declared.refusal.Refusal.TheVariants as R
-use Rattle.command.specs.declared.refusal.Verdict.{Verdict}
-use Rattle.command.specs.declared.refusal.Verdict.TheVariants.{Fine, Refused}
 use Rattle.command.specs.declared.Command.TheVariants as C
 use Rattle.command.specs.Numbers.{refusal_number, verdict_number}
 use Rattle.line.specs.declared.Framing.{Framing}
@@ -28,10 +33,7 @@ use Rattle.buffer.specs.declared.course.State.TheVariants.{Running}
 use Rattle.machine.specs.Step.{around, fine}
 use Rattle.machine.specs.Run.{used_of}
 use Rattle.machine.specs.Device.{tick_of, halted_of, advance_of, ran_of}
-use Rattle.machine.specs.declared.Used.{Used}
-use Rattle.machine.specs.declared.Used.TheVariants.{Ticks, S3}
 use Rattle.machine.specs.History.{IsSum}
-use Rattle.level.specs.declared.Pressure.TheVariants.{Beyond}
 use Rattle.motion.specs.Detect.{felt_in}
 use Rattle.machine.specs.OnCourse.{OnCourse, uninitialised, steep, outside, tipless, unready, still_there, taken, judged, unknown, no_way, no_zero, halted_move, too_much, no_liquid}
 use Rattle.machine.proofs.Runs.{count_within, not_ready_before, ready_after}
@@ -41,13 +43,7 @@ use Rattle.machine.proofs.Tips.{the_host_is_asked_for_each_E_taken_and_not_refus
 use Rattle.machine.proofs.Homing.{a_cut_W_leaves_the_plunger_uninitialised}
 use Rattle.pipettor.specs.declared.address.Address.{Address}
 use Rattle.pipettor.specs.declared.address.Address.TheVariants.{One, Two, Three, Four, Five, Six, Seven, Eight, Nine}
-use Rattle.pipettor.specs.declared.address.Given.{Given}
-use Rattle.pipettor.specs.declared.address.Given.TheVariants.{Is, S2}
-use Rattle.pipettor.specs.declared.acting.Outcome.{Outcome}
-use Rattle.pipettor.specs.declared.acting.Outcome.TheVariants.{Mute, Tell}
 use Rattle.pipettor.specs.declared.Controller.{Controller}
-use Rattle.pipettor.specs.declared.Said.{Said}
-use Rattle.pipettor.specs.declared.Said.TheVariants.{Silent, Answer, S1}
 use Rattle.pipettor.specs.Address.{address_of}
 use Rattle.pipettor.specs.Byte.{After, said_of, written_of, dealt_of, heard_of, byte_of}
 use Rattle.pipettor.specs.Controller.{ticked_of, stopped_of, advanced_of, run_of}
@@ -69,10 +65,10 @@ behind_over : (xs buf : List ℕ) → drop (length xs) (over xs 0 buf) ≡ drop 
 unfolding over
 behind_over xs buf = let z : 0 + length xs ≡ length xs = omega arith in rw z (drop_at xs (drop (length xs) buf) (length xs) refl)
 
-written_by : (f : Framing) (o : Outcome) (ready : Bool) (buf : List ℕ) → 32 ≤ length buf → Written (said_of f o ready) buf (written_of f o ready buf)
+written_by : (f : Framing) (o : Option (Report × ℕ)) (ready : Bool) (buf : List ℕ) → 32 ≤ length buf → Written (said_of f o ready) buf (written_of f o ready buf)
 unfolding said_of written_of
-written_by f Mute ready buf long = refl
-written_by f (Tell report code) ready buf long =
+written_by f None ready buf long = refl
+written_by f (Some (report, code)) ready buf long =
     let answer = answer_of f (status_of ready code) report in
     let short = answer_fits f (status_of ready code) report in
     (short, length_over answer 0 buf (omega arith), behind_over answer buf)
@@ -97,22 +93,22 @@ module _ (k : Controller) (n : ℕ) (sense : Sense) where
         ready_after = ready_after n w s;
       }
 
--- S1, S2 and S3 are what is called so on paper, and nothing else is
+-- (Err s1), (Err s2) and (Err s3) are what is called so on paper, and nothing else is
 on_paper : {A : Type 0} {C : Type 0} (paper : A → Handed) (r s : A) (n : ℕ) → (paper r ≡ S n → r ≡ s) → paper s ≡ S n → Exactly (r ≡ s) C → Exactly (paper r ≡ S n) C
 on_paper paper r s n named is e = record { only = λ p. e.only (named p); always = λ c. ap paper (e.always c) ∙ is }
 
-only_s1 : (r : Said) → said_is r ≡ S 1 → r ≡ S1
-only_s1 Silent e = let z : ◌≡◌ {A = ℕ} 0 1 = cc in absurd (omega arith)
-only_s1 (Answer n) e = let z : ◌≡◌ {A = ℕ} 0 1 = cc in absurd (omega arith)
-only_s1 S1 e = refl
+only_s1 : (r : Said) → said_is r ≡ S 1 → r ≡ Err s1
+only_s1 (Ok None) e = let z : ◌≡◌ {A = ℕ} 0 1 = cc in absurd (omega arith)
+only_s1 (Ok (Some n)) e = let z : ◌≡◌ {A = ℕ} 0 1 = cc in absurd (omega arith)
+only_s1 (Err _) e = refl
 
-only_s2 : (r : Given) → given_is r ≡ S 2 → r ≡ S2
-only_s2 (Is a) e = let z : ◌≡◌ {A = ℕ} 0 1 = cc in absurd (omega arith)
-only_s2 S2 e = refl
+only_s2 : (r : Result Address S2) → given_is r ≡ S 2 → r ≡ Err s2
+only_s2 (Ok a) e = let z : ◌≡◌ {A = ℕ} 0 1 = cc in absurd (omega arith)
+only_s2 (Err _) e = refl
 
-only_s3 : (r : Used) → used_is r ≡ S 3 → r ≡ S3
-only_s3 (Ticks n) e = let z : ◌≡◌ {A = ℕ} 0 1 = cc in absurd (omega arith)
-only_s3 S3 e = refl
+only_s3 : (r : Result ℕ S3) → used_is r ≡ S 3 → r ≡ Err s3
+only_s3 (Ok n) e = let z : ◌≡◌ {A = ℕ} 0 1 = cc in absurd (omega arith)
+only_s3 (Err _) e = refl
 
 -- a run that fails with a number has a cause of that number
 module _ (k : Controller) (s : Sense) (o : OnCourse k.device) where
@@ -124,8 +120,8 @@ module _ (k : Controller) (s : Sense) (o : OnCourse k.device) where
   causes {A} n some f e = go failed refl e
     where
       go : (v : Verdict) → failed ≡ v → verdict_number v ≡ n → A
-      go Fine h q = absurd (some (sym q))
-      go (Refused why) h q = f why ((a_run_fails_exactly_for_a_cause k.device.text s k.device.core why o).only h) q
+      go (Ok tt) h q = absurd (some (sym q))
+      go (Err why) h q = f why ((a_run_fails_exactly_for_a_cause k.device.text s k.device.core why o).only h) q
 
   numbered : (why : Refusal) → CauseIn s k why → verdict_number failed ≡ refusal_number why
   unfolding ticked_of tick_of
@@ -165,10 +161,10 @@ module _ (k : Controller) (s : Sense) (o : OnCourse k.device) where
       from why (judged a is (too_much f h)) q = absurd (omega arith)
       from why (judged a is (no_liquid f h)) q = absurd (omega arith)
 
-  five : Exactly (verdict_number failed ≡ 5) (FeelsFor k × (felt_in s ≡ Beyond))
+  five : Exactly (verdict_number failed ≡ 5) (FeelsFor k × (felt_in s ≡ None))
   five = record { only = causes 5 (λ e. omega arith) from; always = λ h. numbered R.TooMuchPressure (to h.0 h.1) }
     where
-      from : (why : Refusal) → CauseIn s k why → refusal_number why ≡ 5 → FeelsFor k × (felt_in s ≡ Beyond)
+      from : (why : Refusal) → CauseIn s k why → refusal_number why ≡ 5 → FeelsFor k × (felt_in s ≡ None)
       from why (taken c t (uninitialised way v e i)) q = absurd (omega arith)
       from why (taken c t (steep way v e i h)) q = absurd (omega arith)
       from why (taken c t (outside way v e i flat out)) q = absurd (omega arith)
@@ -182,7 +178,7 @@ module _ (k : Controller) (s : Sense) (o : OnCourse k.device) where
       from why (judged a is (too_much f h)) q = (searching f is, h)
       from why (judged a is (no_liquid f h)) q = absurd (omega arith)
 
-      to : FeelsFor k → felt_in s ≡ Beyond → CauseIn s k R.TooMuchPressure
+      to : FeelsFor k → felt_in s ≡ None → CauseIn s k R.TooMuchPressure
       to (taking here t i n) f = taken (C.Detect here) t (no_zero here refl i n f)
       to (moving_to_p2 t z is) f = judged (Approaching t z) is (halted_move t z f)
       to (searching x is) f = judged (Searching x) is (too_much x f)
@@ -221,11 +217,11 @@ every_controller_answers a calls =
     let sound = every_controller_is_sound a calls in
     record {
       every_premise_holds = sound.valid;
-      a_short_buffer_is_S1 = λ b buf. on_paper said_is _ S1 1 (only_s1 _) refl (a_short_buffer_is_s1 k b buf);
+      a_short_buffer_is_S1 = λ b buf. on_paper said_is _ (Err s1) 1 (only_s1 _) refl (a_short_buffer_is_s1 k b buf);
       S1_changes_nothing = s1_changes_nothing k;
       a_byte_writes_its_answer_only = a_byte_writes k;
       a_frame_is_treated_by_the_table = λ form ds buf heard good long. a_frame_is_treated_by_the_table k sound.sized.frame buf long form ds heard good;
-      a_long_run_is_S3 = λ n s. on_paper used_is _ S3 3 (only_s3 _) refl (more_than_60000_ticks_are_s3 n s k);
+      a_long_run_is_S3 = λ n s. on_paper used_is _ (Err s3) 3 (only_s3 _) refl (more_than_60000_ticks_are_s3 n s k);
       S3_changes_nothing = λ n s h. rw (lt-ltb 60000 n h);
       a_run_counts_its_ticks = λ n s h. (used_of n (around k.device.text s) (fine k.device.core), a_run_is_counted k n s h);
       a_run_meets_a_command = λ is. a_run_meets_a_command k.device.text k.device.core.course is sound.on_course;
@@ -249,7 +245,7 @@ every_controller_answers a calls =
       a_cut_W_leaves_it_uninitialised = λ t is. a_cut_W_leaves_the_plunger_uninitialised t k.device.core is sound.homes;
     }
 
-address : (a : Address) → (n : ℕ) × (given_is (address_of n) ≡ number n) × (address_of n ≡ Is a)
+address : (a : Address) → (n : ℕ) × (given_is (address_of n) ≡ number n) × (address_of n ≡ Ok a)
 unfolding address_of
 address One = (1, refl, refl)
 address Two = (2, refl, refl)
@@ -262,7 +258,7 @@ address Eight = (8, refl, refl)
 address Nine = (9, refl, refl)
 
 making_refuses : Makes
-making_refuses = record { one_to_nine = address; any_other_is_S2 = λ n. on_paper given_is _ S2 2 (only_s2 _) refl (an_address_outside_1_to_9_is_s2 n) }
+making_refuses = record { one_to_nine = address; any_other_is_S2 = λ n. on_paper given_is _ (Err s2) 2 (only_s2 _) refl (an_address_outside_1_to_9_is_s2 n) }
 
 pub every_call_is_answered : TotalityAndRefusals
 every_call_is_answered = record { making = making_refuses; calling = every_controller_answers; receiving = every_controller_receives }

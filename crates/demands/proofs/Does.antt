@@ -8,7 +8,7 @@ use borrow.Author.Tests.{eqb-true}
 use lib.Dec.{ltb, eqb}
 use lib.ListN.{length, take, drop}
 use lib.Seq.{length-take-le, take-append-le}
-use Rattle.std.specs.Prelude.{if◌then◌else◌}
+use Rattle.std.specs.Prelude.{if◌then◌else◌, None, Ok, Option, Some}
 use Rattle.basics.specs.Lay.{over}
 use Rattle.basics.proofs.Choice.{by}
 use Rattle.command.specs.declared.refusal.Refusal.{Refusal}
@@ -18,7 +18,6 @@ use Rattle.text.specs.declared.Data.{Data}
 use Rattle.text.specs.declared.Data.TheVariants as D
 use Rattle.text.specs.declared.Control.{Control}
 use Rattle.text.specs.declared.Control.TheVariants.{Run, Stop, Again, Clear, Reset}
-use Rattle.text.specs.declared.Checked.TheVariants.{Fine}
 use Rattle.text.specs.Text.{Step, Reading, reads, wrong, read_of, verdict, check_of}
 use Rattle.text.specs.Data.{spaceless, body, control_of, data_of}
 use Rattle.text.proofs.Strings.{a_text_stands_in_front}
@@ -35,8 +34,6 @@ use Rattle.machine.specs.Step.{around, fine}
 use Rattle.machine.specs.Device.{device, advance_of, ran_of}
 use Rattle.machine.specs.History as Machine
 use Rattle.machine.specs.OnCourse.{Loaded, SentBy}
-use Rattle.pipettor.specs.declared.acting.Got.{Got}
-use Rattle.pipettor.specs.declared.acting.Got.TheVariants as G
 use Rattle.pipettor.specs.declared.Controller.{Controller}
 use Rattle.pipettor.specs.Address.{letter_of}
 use Rattle.pipettor.specs.Byte.{After, fetched_of, squeezed_in, got_of, squeezed_of, action_of, string_action, task_of, size_of, performed_of, dealt_of, heard_of, byte_of}
@@ -53,7 +50,7 @@ pub data Does (d : Device) : Turn Device → Type 0 where
   ticks : (n : ℕ) (s : Sense) → Does d (record { next = (advance_of n s d).device; events = ticks_events n s d })
 
 -- a text that stands in front of data reads, and isn't empty
-reading_of : (t : List ℕ) (r : Reading) → read_of t ≡ r → verdict r ≡ Fine → (steps : List Step) × (read_of t ≡ reads steps)
+reading_of : (t : List ℕ) (r : Reading) → read_of t ≡ r → verdict r ≡ Ok tt → (steps : List Step) × (read_of t ≡ reads steps)
 reading_of t (reads steps) e v = (steps, e)
 reading_of t (wrong r) e v = let z : ◌≡◌ {A = ℕ} 0 1 = cc in absurd (omega arith)
 
@@ -87,16 +84,16 @@ front_of_squeezed : (n : ℕ) (t frame : List ℕ) → n ≤ length t → take n
 unfolding over
 front_of_squeezed n t frame h = take-append-le n t (drop (0 + length t) frame) h
 
-abbrev Brings : Got → List ℕ → Type 0
-Brings G.Nothing added = Unit {0}
-Brings (G.Data (D.Report q)) added = Unit {0}
-Brings (G.Data D.WrongReport) added = Unit {0}
-Brings (G.Data (D.Control c)) added = Unit {0}
-Brings (G.Data (D.Text n run)) added = Loaded added
-Brings (G.Data (D.Wrong r)) added = Unit {0}
-Brings (G.Data D.TooLong) added = Unit {0}
+abbrev Brings : Option Data → List ℕ → Type 0
+Brings None added = Unit {0}
+Brings (Some (D.Report q)) added = Unit {0}
+Brings (Some D.WrongReport) added = Unit {0}
+Brings (Some (D.Control c)) added = Unit {0}
+Brings (Some (D.Text n run)) added = Loaded added
+Brings (Some (D.Wrong r)) added = Unit {0}
+Brings (Some D.TooLong) added = Unit {0}
 
-data_brings : (t frame : List ℕ) (d : Data) → data_of t ≡ d → Brings (G.Data d) (take (size_of (G.Data d)) (over t 0 frame))
+data_brings : (t frame : List ℕ) (d : Data) → data_of t ≡ d → Brings (Some d) (take (size_of (Some d)) (over t 0 frame))
 data_brings t frame (D.Report q) e = tt
 data_brings t frame D.WrongReport e = tt
 data_brings t frame (D.Control c) e = tt
@@ -117,7 +114,7 @@ got_brings ours (W.Frame a n) frame = go (eqb a ours) (ltb 320 n)
 
     go :
         (x y : Bool) →
-        (let g = if x then (if y then G.Data D.TooLong else G.Data (data_of t)) else G.Nothing in
+        (let g = if x then (if y then Some D.TooLong else Some (data_of t)) else None in
         Brings g (take (size_of g) (if x then (if y then frame else over t 0 frame) else frame)))
     go true true = tt
     go true false = data_brings t frame (data_of t) refl
@@ -125,7 +122,7 @@ got_brings ours (W.Frame a n) frame = go (eqb a ours) (ltb 320 n)
 
 -- what a frame does to a device, by what it brings
 module _ (d : Device) where
-  abbrev outcome : Got → List ℕ → Turn Device
+  abbrev outcome : Option Data → List ℕ → Turn Device
   outcome g added = let t = performed_of (task_of g) added d in record { next = t.next.device; events = t.events }
 
   control_sent : (c : Control) (added : List ℕ) → SentBy (Machine.act (action_of c) added)
@@ -139,15 +136,15 @@ module _ (d : Device) where
   string_sent true added l = l
   string_sent false added l = l
 
-  frame_does : (g : Got) (added : List ℕ) → Brings g added → Does d (outcome g added)
+  frame_does : (g : Option Data) (added : List ℕ) → Brings g added → Does d (outcome g added)
   unfolding task_of performed_of Machine.call_of
-  frame_does G.Nothing added b = none
-  frame_does (G.Data (D.Report q)) added b = none
-  frame_does (G.Data D.WrongReport) added b = none
-  frame_does (G.Data (D.Control c)) added b = call (Machine.act (action_of c) added) (control_sent c added)
-  frame_does (G.Data (D.Text n run)) added b = call (Machine.act (string_action run) added) (string_sent run added b)
-  frame_does (G.Data (D.Wrong m)) added b = new_error (R.Misread m)
-  frame_does (G.Data D.TooLong) added b = new_error R.TooLong
+  frame_does None added b = none
+  frame_does (Some (D.Report q)) added b = none
+  frame_does (Some D.WrongReport) added b = none
+  frame_does (Some (D.Control c)) added b = call (Machine.act (action_of c) added) (control_sent c added)
+  frame_does (Some (D.Text n run)) added b = call (Machine.act (string_action run) added) (string_sent run added b)
+  frame_does (Some (D.Wrong m)) added b = new_error (R.Misread m)
+  frame_does (Some D.TooLong) added b = new_error R.TooLong
 
 -- every call
 abbrev on_device : Turn Controller → Turn Device

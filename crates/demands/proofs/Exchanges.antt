@@ -4,6 +4,7 @@ use mathlib.Core.List.{List, [], ◌∷◌, ◌++◌, append_assoc}
 use Prim.Native.Nat.{ℕ, ◌≤◌}
 use lib.Dec.{ltb}
 use lib.ListN.{length, replicate}
+use Rattle.std.specs.Prelude.{None, Ok}
 use Rattle.basics.proofs.Choice.{by}
 use Rattle.line.specs.declared.Framing.{Framing}
 use Rattle.line.specs.declared.Framing.TheVariants.{Dt, Oem}
@@ -12,7 +13,6 @@ use Rattle.line.proofs.Receiving.{hear_keeps_framing, feed_keeps_framing}
 use Rattle.motion.specs.Events.{Turn}
 use Rattle.pipettor.specs.declared.address.Address.{Address}
 use Rattle.pipettor.specs.declared.Controller.{Controller}
-use Rattle.pipettor.specs.declared.Said.TheVariants.{Silent}
 use Rattle.pipettor.specs.Address.{letter_of}
 use Rattle.pipettor.specs.Byte.{After, heard_of, byte_of}
 use Rattle.pipettor.specs.Listening.{listened_of}
@@ -122,6 +122,6 @@ module _ (form : Form) (a : Making) (calls : List Call) (ds buf : List ℕ) (hea
             sym (append_assoc m.events (events_of calls m.next) (exchange_of a.framing ds a.address before.device buf).events);
         back = answers_of frame before;
         answered = agrees.answered ∙ answers_two calls frame m.next;
-        said = gives.said ∙ exchanged.said ∙ ap (λ (x : Address). replicate (length (front form (letter_of x) ds)) Silent ++ ((exchange_of a.framing ds a.address before.device buf).next.said ∷ [])) us;
+        said = gives.said ∙ exchanged.said ∙ ap (λ (x : Address). replicate (length (front form (letter_of x) ds)) (Ok None) ++ ((exchange_of a.framing ds a.address before.device buf).next.said ∷ [])) us;
         buffer = gives.buffer ∙ exchanged.buffer;
       }

@@ -3,13 +3,13 @@ use mathlib.Core.Path.{◌≡◌, refl, ap}
 use mathlib.Core.List.{List, [], ◌∷◌, ◌++◌}
 use Prim.Native.Nat.{ℕ, ◌≤◌}
 use lib.ListN.{length, replicate}
+use Rattle.std.specs.Prelude.{None, Ok}
+use Rattle.pipettor.specs.Said.{Said}
 use Rattle.line.specs.declared.Framing.{Framing}
 use Rattle.line.specs.Wire.{Form, formed, front, Sendable, Hears as ReceiverHears}
 use Rattle.machine.specs.declared.Device.{Device}
 use Rattle.pipettor.specs.declared.address.Address.{Address}
 use Rattle.pipettor.specs.declared.Controller.{Controller}
-use Rattle.pipettor.specs.declared.Said.{Said}
-use Rattle.pipettor.specs.declared.Said.TheVariants.{Silent}
 use Rattle.pipettor.specs.Address.{letter_of}
 use Rattle.pipettor.specs.Byte.{byte_of}
 use Rattle.frames.specs.Frame.{exchange_of, given_of}
@@ -48,7 +48,7 @@ module _ (k : Controller) (sized : length k.frame ≡ 320) (buf : List ℕ) (lon
     a_frame_is_seen_as_an_exchange =
         let e = exchange_of (formed form) ds k.address k.device buf in
         let x = a_whole_frame_is_an_exchange form k ds buf heard sized good long in
-        rw (x.said, x.buffer, x.device, x.events, last_said Silent e.next.said (replicate (length (front form (letter_of k.address) ds)) Silent))
+        rw (x.said, x.buffer, x.device, x.events, last_said (Ok None) e.next.said (replicate (length (front form (letter_of k.address) ds)) (Ok None)))
 
     pub a_frame_is_treated_by_the_table : Treated (formed form) ds k.address k.device buf (frame_seen form k ds buf)
     a_frame_is_treated_by_the_table = rw a_frame_is_seen_as_an_exchange (an_exchange_is_treated_by_the_table (formed form) ds k.address k.device buf)

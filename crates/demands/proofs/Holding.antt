@@ -18,11 +18,11 @@ use Rattle.line.specs.declared.Deed.{Deed}
 use Rattle.line.specs.declared.Deed.TheVariants as W
 use Rattle.line.specs.declared.dt.Dt.{Dt as DtState}
 use Rattle.line.specs.declared.dt.Dt.TheVariants as D
-use Rattle.line.specs.declared.dt.Step.{Step as DtStep}
 use Rattle.line.specs.declared.oem.Head.{Head}
 use Rattle.line.specs.declared.oem.Oem.{Oem as OemState}
 use Rattle.line.specs.declared.oem.Oem.TheVariants as O
-use Rattle.line.specs.declared.oem.Step.{Step as OemStep}
+use Rattle.line.specs.declared.Heard.{Heard}
+use Rattle.line.specs.Heard.{waits}
 use Rattle.line.specs.Bytes.{printable, sum_from}
 use Rattle.line.specs.Dt as Dt
 use Rattle.line.specs.Dt.{slash, cr}
@@ -115,7 +115,7 @@ module _ (b : ℕ) (ds f : List ℕ) (kept : Kept ds f) where
       (omega (arith, count), rw (count, r) (first ∙ sym (take-append-le 320 ds (b ∷ []) h)))
 
   -- in DT and in OEM
-  dt_collects : (a : ℕ) → length f ≡ 320 → (let s = Dt.take_of (D.Collecting a (counted ds)) b in Shows (dt_hand (to a (ds ++ (b ∷ [])))) (at (Dt s.dt) (keep_of f s.deed b)))
+  dt_collects : (a : ℕ) → length f ≡ 320 → (let s = Dt.take_of (D.Collecting a (counted ds)) b in Shows (dt_hand (to a (ds ++ (b ∷ [])))) (at (Dt s.line) (keep_of f s.deed b)))
   unfolding Dt.take_of keep_of
   dt_collects a n =
       less (length ds) 320
@@ -126,7 +126,7 @@ module _ (b : ℕ) (ds f : List ℕ) (kept : Kept ds f) where
   unfolding sum_from
   with_it a s = ap (λ (x : ℕ). record { address = a; sequence = s; sum = x }) (sym (sum_append (head_of a s).sum ds (b ∷ [])))
 
-  oem_collects : (a s : ℕ) → length f ≡ 320 → (let t = Oem.take_of (summed (head_of a s) ds) (counted ds) b in Shows (oem_hand (collecting a s (ds ++ (b ∷ [])))) (at (Oem t.oem) (keep_of f t.deed b)))
+  oem_collects : (a s : ℕ) → length f ≡ 320 → (let t = Oem.take_of (summed (head_of a s) ds) (counted ds) b in Shows (oem_hand (collecting a s (ds ++ (b ∷ [])))) (at (Oem t.line) (keep_of f t.deed b)))
   unfolding Oem.take_of keep_of
   oem_collects a s n =
       less (length ds) 320
@@ -138,13 +138,13 @@ abbrev Goes : Hand → ℕ → List ℕ → Type 0
 Goes h b f = Shows (hand_of h b) (hears (at (line_of h) f) b)
 
 dt_takes : (h : DtHand) (b : ℕ) (f : List ℕ) → length f ≡ 320 → Kept (data_in (dt_hand h)) f →
-    (let t = Dt.take_of (state_of h) b in Shows (dt_hand (longer h b)) (at (Dt t.dt) (keep_of f t.deed b)))
+    (let t = Dt.take_of (state_of h) b in Shows (dt_hand (longer h b)) (at (Dt t.line) (keep_of f t.deed b)))
 unfolding Dt.take_of keep_of
 dt_takes none b f n k = record { line = refl; kept = no_data f }
 dt_takes begun b f n k = record { line = refl; kept = no_data f }
 dt_takes (to a ds) b f n k = dt_collects b ds f k a n
 
-dt_ended : (d : DtState) → (Dt.end_of d).dt ≡ D.Outside
+dt_ended : (d : DtState) → (Dt.end_of d).line ≡ D.Outside
 unfolding Dt.end_of
 dt_ended D.Outside = refl
 dt_ended D.Started = refl
@@ -155,21 +155,21 @@ unfolding dt_of hears hear_of keep_of Dt.hear_of
 dt_goes h b f n k = go (eqb b slash) (eqb b cr) (printable b)
   where
     go : (x y z : Bool) →
-        (let t = if x then Dt.waits D.Started else if y then Dt.end_of (state_of h) else if z then Dt.take_of (state_of h) b else Dt.waits D.Outside in
-        Shows (dt_hand (if x then begun else if y then none else if z then longer h b else none)) (at (Dt t.dt) (keep_of f t.deed b)))
+        (let t = if x then waits D.Started else if y then Dt.end_of (state_of h) else if z then Dt.take_of (state_of h) b else waits D.Outside in
+        Shows (dt_hand (if x then begun else if y then none else if z then longer h b else none)) (at (Dt t.line) (keep_of f t.deed b)))
     go true y z = record { line = refl; kept = no_data f }
     go false true z = record { line = ap Dt (dt_ended (state_of h)); kept = no_data (keep_of f (Dt.end_of (state_of h)).deed b) }
     go false false true = dt_takes h b f n k
     go false false false = record { line = refl; kept = no_data f }
 
 oem_header : (b : ℕ) (f : List ℕ) (next : OemHand) (o : OemState) → line_of (oem_hand next) ≡ Oem o → Kept (data_in (oem_hand next)) f →
-    (let t = Oem.header_of b o in Shows (oem_hand (headed b next)) (at (Oem t.oem) (keep_of f t.deed b)))
+    (let t = Oem.header_of b o in Shows (oem_hand (headed b next)) (at (Oem t.line) (keep_of f t.deed b)))
 unfolding headed Oem.header_of keep_of
 oem_header b f next o e k = go (eqb b stx) (printable b)
   where
     go : (x y : Bool) →
-        (let t = if x then Oem.waits O.Started else if y then Oem.waits o else Oem.waits O.Outside in
-        Shows (oem_hand (if x then started else if y then next else idle)) (at (Oem t.oem) (keep_of f t.deed b)))
+        (let t = if x then waits O.Started else if y then waits o else waits O.Outside in
+        Shows (oem_hand (if x then started else if y then next else idle)) (at (Oem t.line) (keep_of f t.deed b)))
     go true y = record { line = refl; kept = no_data f }
     go false true = record { line = sym e; kept = k }
     go false false = record { line = refl; kept = no_data f }
@@ -182,7 +182,7 @@ oem_goes : (h : OemHand) (b : ℕ) (f : List ℕ) → length f ≡ 320 → Kept 
 unfolding oem_of hears hear_of keep_of Oem.hear_of Oem.collect_of
 oem_goes idle b f n k = go (eqb b stx)
   where
-    go : (x : Bool) → (let t = if x then Oem.waits O.Started else Oem.waits O.Outside in Shows (oem_hand (if x then started else idle)) (at (Oem t.oem) (keep_of f t.deed b)))
+    go : (x : Bool) → (let t = if x then waits O.Started else waits O.Outside in Shows (oem_hand (if x then started else idle)) (at (Oem t.line) (keep_of f t.deed b)))
     go true = record { line = refl; kept = no_data f }
     go false = record { line = refl; kept = no_data f }
 oem_goes started b f n k = oem_header b f (addressed b) (O.Addressed b) refl (no_data f)
@@ -190,8 +190,8 @@ oem_goes (addressed a) b f n k = oem_header b f (collecting a b []) (O.Collectin
 oem_goes (collecting a s ds) b f n k = go (eqb b stx) (eqb b etx) (printable b)
   where
     go : (x y z : Bool) →
-        (let t = if x then Oem.waits O.Started else if y then Oem.waits (O.Ended (with_byte (summed (head_of a s) ds) etx) (counted ds)) else if z then Oem.take_of (summed (head_of a s) ds) (counted ds) b else Oem.waits O.Outside in
-        Shows (oem_hand (if x then started else if y then closed a s ds else if z then collecting a s (ds ++ (b ∷ [])) else idle)) (at (Oem t.oem) (keep_of f t.deed b)))
+        (let t = if x then waits O.Started else if y then waits (O.Ended (with_byte (summed (head_of a s) ds) etx) (counted ds)) else if z then Oem.take_of (summed (head_of a s) ds) (counted ds) b else waits O.Outside in
+        Shows (oem_hand (if x then started else if y then closed a s ds else if z then collecting a s (ds ++ (b ∷ [])) else idle)) (at (Oem t.line) (keep_of f t.deed b)))
     go true y z = record { line = refl; kept = no_data f }
     go false true z = record { line = refl; kept = k }
     go false false true = oem_collects b ds f k a s n
@@ -218,7 +218,7 @@ abbrev pub Deeds : Hand → Ending → Deed → Type 0
 Deeds h no_frame d = is_whole d ≡ false
 Deeds h (frame a ds) d = (d ≡ W.Frame a (counted ds)) × (data_in h ≡ ds)
 
-abbrev QuietDt : DtStep → Type 0
+abbrev QuietDt : Heard DtState → Type 0
 QuietDt t = is_whole t.deed ≡ false
 
 dt_take_is_quiet : (d : DtState) (b : ℕ) → QuietDt (Dt.take_of d b)
@@ -243,7 +243,7 @@ dt_deeds (to a ds) b =
     (λ e. (rw (eqb-true b cr e), refl))
     (λ e. dt_is_quiet (D.Collecting a (counted ds)) b (λ y. absurd (false≢true (sym e ∙ y))))
 
-abbrev QuietOem : OemStep → Type 0
+abbrev QuietOem : Heard OemState → Type 0
 QuietOem t = is_whole t.deed ≡ false
 
 oem_header_is_quiet : (b : ℕ) (o : OemState) → QuietOem (Oem.header_of b o)
@@ -267,7 +267,7 @@ deeds (oem_hand (collecting a s ds)) b = oem_collect_is_quiet (summed (head_of a
 deeds (oem_hand (closed a s ds)) b = rw (sum_is a s ds) (go (eqb b (ended a s ds).sum && sequenced s))
   where
     go : (t : Bool) →
-        Deeds (oem_hand (closed a s ds)) (if t then frame a ds else no_frame) (if t then record { oem = O.Outside; deed = W.Frame a (counted ds) } else Oem.waits O.Outside).deed
+        Deeds (oem_hand (closed a s ds)) (if t then frame a ds else no_frame) (if t then record { line = O.Outside; deed = W.Frame a (counted ds) } else waits O.Outside).deed
     go true = (refl, refl)
     go false = refl
 

@@ -7,6 +7,7 @@ use native.Mathlib.Omega.{arith}
 use borrow.Author.Tests.{eqb-true, eqb-false}
 use lib.Dec.{eqb}
 use lib.ListN.{length, length-replicate}
+use Rattle.std.specs.Prelude.{None, Ok}
 use Rattle.basics.proofs.Choice.{by}
 use Rattle.line.specs.declared.Framing.TheVariants.{Dt}
 use Rattle.line.specs.declared.Line.{Line}
@@ -21,7 +22,6 @@ use Rattle.motion.specs.Events.{Turn, quiet}
 use Rattle.machine.specs.declared.Device.{Device}
 use Rattle.pipettor.specs.declared.address.Address.{Address}
 use Rattle.pipettor.specs.declared.Controller.{Controller}
-use Rattle.pipettor.specs.declared.Said.TheVariants.{Silent}
 use Rattle.pipettor.specs.Address.{letter_of}
 use Rattle.pipettor.specs.Byte.{After, after, reply, Exchange, byte_of}
 use Rattle.pipettor.specs.Listening.{listened_of}
@@ -218,7 +218,7 @@ shows_started : (form : Form) (held : List ℕ) → Shows (started_by form) (at 
 shows_started dt held = record { line = refl; kept = no_data held }
 shows_started (oem s) held = record { line = refl; kept = no_data held }
 
-start_does : (form : Form) (k : Controller) (buf : List ℕ) → Hears form k.line → 32 ≤ length buf → byte_of k (start_byte form) buf ≡ quiet (after (reply (hearing k (at (line_of (started_by form)) k.frame)) Silent) buf)
+start_does : (form : Form) (k : Controller) (buf : List ℕ) → Hears form k.line → 32 ≤ length buf → byte_of k (start_byte form) buf ≡ quiet (after (reply (hearing k (at (line_of (started_by form)) k.frame)) (Ok None)) buf)
 unfolding keep_of hears
 start_does form k buf h long =
     let e = starts form k.line h in

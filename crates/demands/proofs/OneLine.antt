@@ -8,6 +8,13 @@ use borrow.Author.Tests.{ne_eqb, le-leb, ltb-false}
 use lib.Dec.{eqb, leb, ltb}
 use lib.ListN.{length, take, drop, length-append}
 use lib.Seq.{take_at}
+use Rattle.std.specs.Prelude.{Err, None, Ok, Option, Result, Some}
+use Rattle.text.specs.declared.Data.{Data}
+use Rattle.pipettor.specs.declared.address.S2.{S2}
+use Rattle.pipettor.specs.Said.{Said, s1, s2}
+use Rattle.machine.specs.declared.S3.{S3}
+use Rattle.machine.specs.Used.{s3}
+use Rattle.command.specs.Verdict.{Verdict}
 use Rattle.basics.specs.Bytes.{chars, point, digit, every}
 use Rattle.basics.specs.Lay.{over}
 use Rattle.basics.proofs.Choice.{by}
@@ -30,26 +37,13 @@ use Rattle.settings.specs.declared.Detection.{Detection}
 use Rattle.settings.specs.declared.Settings.{Settings}
 use Rattle.motion.specs.declared.Body.{Body}
 use Rattle.motion.specs.Events.{Turn}
-use Rattle.command.specs.declared.refusal.Verdict.{Verdict}
 use Rattle.buffer.specs.declared.course.State.{State}
 use Rattle.buffer.specs.declared.course.Course.{Course}
 use Rattle.machine.specs.declared.step.Core.{Core}
-use Rattle.machine.specs.declared.Used.{Used}
-use Rattle.machine.specs.declared.Used.TheVariants as U
-use Rattle.reports.specs.declared.Told.{Told}
-use Rattle.reports.specs.declared.Told.TheVariants.{Says, No}
 use Rattle.reports.specs.Reports.{setting_of, aspect_in, value_of, query_of, tell_of}
 use Rattle.pipettor.specs.declared.address.Address.{Address}
 use Rattle.pipettor.specs.declared.address.Address.TheVariants.{One, Two, Three, Four, Five, Six, Seven, Eight, Nine}
-use Rattle.pipettor.specs.declared.address.Given.{Given}
-use Rattle.pipettor.specs.declared.address.Given.TheVariants.{Is, S2}
-use Rattle.pipettor.specs.declared.acting.Got.{Got}
-use Rattle.pipettor.specs.declared.acting.Got.TheVariants as G
-use Rattle.pipettor.specs.declared.acting.Outcome.{Outcome}
-use Rattle.pipettor.specs.declared.acting.Outcome.TheVariants.{Mute, Tell}
 use Rattle.pipettor.specs.declared.Controller.{Controller}
-use Rattle.pipettor.specs.declared.Said.{Said}
-use Rattle.pipettor.specs.declared.Said.TheVariants.{Silent, Answer, S1}
 use Rattle.pipettor.specs.Address.{letter_of, address_of}
 use Rattle.pipettor.specs.Byte.{told_code, told_of, outcome_of, said_of, written_of, After, dealt_of, heard_of, byte_of}
 use Rattle.pipettor.specs.Listening.{listened_of}
@@ -103,9 +97,9 @@ report_plain (Whole n) h = fixed_plain 0 n
 report_plain (Tenths n) h = fixed_plain 1 n
 report_plain (Thousandths n) h = fixed_plain 3 n
 
-abbrev PlainTold : Told → Type 0
-PlainTold (Says r) = Plain r
-PlainTold No = Unit {0}
+abbrev PlainTold : Option Report → Type 0
+PlainTold (Some r) = Plain r
+PlainTold None = Unit {0}
 
 setting_plain : (n : ℕ) (s : Settings) → PlainTold (setting_of n s)
 unfolding setting_of
@@ -165,24 +159,24 @@ letter_plain Seven = omega arith
 letter_plain Eight = omega arith
 letter_plain Nine = omega arith
 
-abbrev PlainOutcome : Outcome → Type 0
-PlainOutcome Mute = Unit {0}
-PlainOutcome (Tell r code) = Plain r
+abbrev PlainOutcome : Option (Report × ℕ) → Type 0
+PlainOutcome None = Unit {0}
+PlainOutcome (Some (r, code)) = Plain r
 
-told_plain : (t : Told) (error : ℕ) → PlainTold t → PlainOutcome (told_code t error)
-told_plain (Says r) error h = h
-told_plain No error h = tt
+told_plain : (t : Option Report) (error : ℕ) → PlainTold t → PlainOutcome (told_code t error)
+told_plain (Some r) error h = h
+told_plain None error h = tt
 
-outcome_plain : (g : Got) (a : Address) (v : Verdict) (tip : Bool) (c : Core) → PlainOutcome (outcome_of g a v tip c)
+outcome_plain : (g : Option Data) (a : Address) (v : Verdict) (tip : Bool) (c : Core) → PlainOutcome (outcome_of g a v tip c)
 unfolding outcome_of
-outcome_plain G.Nothing a v tip c = tt
-outcome_plain (G.Data (D.Report q)) a v tip c =
+outcome_plain None a v tip c = tt
+outcome_plain (Some (D.Report q)) a v tip c =
     told_plain (told_of q a tip c) c.course.error (tell_plain q (letter_of a) tip c.body c.course (letter_plain a))
-outcome_plain (G.Data D.WrongReport) a v tip c = tt
-outcome_plain (G.Data (D.Control k)) a v tip c = tt
-outcome_plain (G.Data (D.Text n run)) a v tip c = tt
-outcome_plain (G.Data (D.Wrong m)) a v tip c = tt
-outcome_plain (G.Data D.TooLong) a v tip c = tt
+outcome_plain (Some D.WrongReport) a v tip c = tt
+outcome_plain (Some (D.Control k)) a v tip c = tt
+outcome_plain (Some (D.Text n run)) a v tip c = tt
+outcome_plain (Some (D.Wrong m)) a v tip c = tt
+outcome_plain (Some D.TooLong) a v tip c = tt
 
 -- what is shown of an answer: its status byte and its data
 tail_size_lem : (f : Framing) (before : List ℕ) → length (tail_of f before) ≡ tail_size f
@@ -208,15 +202,15 @@ one_line : (body : List ℕ) → every no_lf body ≡ true → OneLine (ended bo
 one_line body h = record { body = body; is = refl; inside = h }
 
 module _ (f : Framing) where
-  answer_shown : (ready : Bool) (code : ℕ) (report : Report) (buf : List ℕ) → Plain report → 32 ≤ length buf → (let answer = answer_of f (status_of ready code) report in OneLine (shown_of f (Answer (length answer)) (over answer 0 buf)))
+  answer_shown : (ready : Bool) (code : ℕ) (report : Report) (buf : List ℕ) → Plain report → 32 ≤ length buf → (let answer = answer_of f (status_of ready code) report in OneLine (shown_of f (Ok (Some (length answer))) (over answer 0 buf)))
   unfolding shown_of every status_of
   answer_shown ready code report buf p h =
       rw (heart f (status_of ready code) report buf h) (one_line (status_of ready code ∷ report_of report) (rw (plain (status_of ready code) (omega arith)) (report_plain report p)))
 
-  outcome_shown : (o : Outcome) (ready : Bool) (buf : List ℕ) → PlainOutcome o → 32 ≤ length buf → OneLine (shown_of f (said_of f o ready) (written_of f o ready buf))
+  outcome_shown : (o : Option (Report × ℕ)) (ready : Bool) (buf : List ℕ) → PlainOutcome o → 32 ≤ length buf → OneLine (shown_of f (said_of f o ready) (written_of f o ready buf))
   unfolding shown_of said_of written_of every
-  outcome_shown Mute ready buf p h = one_line (chars "-") refl
-  outcome_shown (Tell report code) ready buf p h = answer_shown ready code report buf p h
+  outcome_shown None ready buf p h = one_line (chars "-") refl
+  outcome_shown (Some (report, code)) ready buf p h = answer_shown ready code report buf p h
 
 byte_shown : (k : Controller) (b : ℕ) (buf : List ℕ) → (let a = (byte_of k b buf).next in OneLine (shown_of (framing_of k.line) a.reply.said a.buffer))
 unfolding byte_of heard_of dealt_of shown_of every
@@ -247,10 +241,10 @@ bar_plain false = refl
 
 added_plain : (first : Bool) (said : Said) (answer : List ℕ) → every no_lf (added_of first said answer) ≡ true
 unfolding added_of every
-added_plain first Silent answer = refl
-added_plain first (Answer n) answer =
+added_plain first (Ok None) answer = refl
+added_plain first (Ok (Some n)) answer =
     by (λ (t : List ℕ). every no_lf t ≡ true) (leb n (length answer)) (λ e. every_append no_lf (bar_of first) (hex_of (take n answer)) (bar_plain first) (hexes_plain (take n answer))) (λ e. refl)
-added_plain first S1 answer = every_append no_lf (bar_of first) (chars "S1") (bar_plain first) refl
+added_plain first (Err _) answer = every_append no_lf (bar_of first) (chars "S1") (bar_plain first) refl
 
 raw_plain : (bytes : List ℕ) (t : Served) → every no_lf t.text ≡ true → every no_lf (raw_from bytes t).text ≡ true
 unfolding raw_from said_to
@@ -284,10 +278,10 @@ placed : (p x : ℕ) (asked : Bool) → OneLine (place_of p x asked)
 unfolding place_of
 placed p x asked = behind ((digits_of p ++ chars " ") ++ long_of x) (last_of asked) (place_plain p x) (last asked)
 
-used : (u : Used) (p x : ℕ) (asked : Bool) → OneLine (used_of u p x asked)
+used : (u : Result ℕ S3) (p x : ℕ) (asked : Bool) → OneLine (used_of u p x asked)
 unfolding used_of every
-used (U.Ticks n) p x asked = behind (digits_of n ++ chars " ") (place_of p x asked) (digits_space n) (placed p x asked)
-used U.S3 p x asked = one_line (chars "S3") refl
+used (Ok n) p x asked = behind (digits_of n ++ chars " ") (place_of p x asked) (digits_space n) (placed p x asked)
+used (Err _) p x asked = one_line (chars "S3") refl
 
 -- each line
 gone_on_lem : (rest : List ℕ) (last : ℕ) (s : Station) → OneLine (gone_on rest last s).text
@@ -296,9 +290,9 @@ gone_on_lem rest last s = byte_shown (listened_of s.controller rest).controller 
 
 sent : (said : Said) (rest : List ℕ) (last : ℕ) (s : Station) → OneLine (sent_by said rest last s).text
 unfolding sent_by every
-sent Silent rest last s = gone_on_lem rest last s
-sent (Answer n) rest last s = gone_on_lem rest last s
-sent S1 rest last s = one_line (chars "S1") refl
+sent (Ok None) rest last s = gone_on_lem rest last s
+sent (Ok (Some n)) rest last s = gone_on_lem rest last s
+sent (Err _) rest last s = one_line (chars "S1") refl
 
 framed : (f : Framing) (text : List ℕ) (s : Station) → OneLine (framed_by f text s).text
 unfolding framed_by sent_of every
@@ -306,10 +300,10 @@ framed F.Dt text s = sent _ text _ _
 framed F.Oem [] s = one_line (chars "?") refl
 framed F.Oem (a ∷ ds) s = sent _ _ _ _
 
-made : (f : Framing) (g : Given) (s : Station) → OneLine (made_by f g s).text
+made : (f : Framing) (g : Result Address S2) (s : Station) → OneLine (made_by f g s).text
 unfolding made_by every
-made f (Is a) s = one_line (chars "ok") refl
-made f S2 s = one_line (chars "S2") refl
+made f (Ok a) s = one_line (chars "ok") refl
+made f (Err _) s = one_line (chars "S2") refl
 
 numbered : (q : Quantity) (n : ℕ) (s : Station) → OneLine (numbered_of q n s).text
 unfolding numbered_of placed_of used_up sensed_of every

@@ -6,9 +6,8 @@ use Prim.Native.Nat.{ℕ}
 use borrow.Author.Tests.{ltb-true, ltb-false}
 use lib.Dec.{ltb}
 use lib.ListN.{length}
-use Rattle.std.specs.Prelude.{if◌then◌else◌}
+use Rattle.std.specs.Prelude.{if◌then◌else◌, Ok}
 use Rattle.basics.proofs.Choice.{by}
-use Rattle.command.specs.declared.refusal.Verdict.TheVariants.{Fine}
 use Rattle.command.proofs.Numbers.{zero_is_fine}
 use Rattle.text.specs.declared.Control.{Control}
 use Rattle.text.specs.declared.Control.TheVariants.{Run, Stop}
@@ -106,7 +105,7 @@ module _ (a : Making) (calls : List Call) where
 
 -- R and T, in a device that has a text stored
 module _ (added : List ℕ) (d : Device) (stored : d.core.course.state ≡ Stored) where
-  begins : verdict_for A.Run added d ≡ Fine → (act_of A.Run added d).next.device ≡ device d.text d.tip (core d.core.body (with_error 0 0 (begun d.core.course.len d.core.course)))
+  begins : verdict_for A.Run added d ≡ Ok tt → (act_of A.Run added d).next.device ≡ device d.text d.tip (core d.core.body (with_error 0 0 (begun d.core.course.len d.core.course)))
   unfolding act_of acted_of done_of changed_of stored_by laid_by cell_of
   begins ok = rw (ok, stored)
 
@@ -123,7 +122,7 @@ module _ (f : Framing) (ds : List ℕ) (a : Address) (d : Device) (buf text : Li
   unfolding exchange_of dealt_of task_of performed_of
   by_control c is = rw is
 
-  accepted_control : (c : Control) → received_of ds ≡ D.Control c → refusal_of ds a d ≡ 0 → verdict_for (action_of c) (added_of ds) d ≡ Fine
+  accepted_control : (c : Control) → received_of ds ≡ D.Control c → refusal_of ds a d ≡ 0 → verdict_for (action_of c) (added_of ds) d ≡ Ok tt
   unfolding refusal_of number_for
   accepted_control c is e = zero_is_fine (verdict_for (action_of c) (added_of ds) d) (rw is at e)
 

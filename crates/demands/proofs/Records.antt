@@ -6,6 +6,7 @@ use Prim.Native.Nat.{ℕ, ◌*◌}
 use native.Mathlib.Omega.{arith}
 use borrow.Author.Tests.{lt-ltb, le-ltb}
 use lib.Dec.{ltb}
+use Rattle.std.specs.Prelude.{None, Option, Some}
 use Rattle.basics.proofs.Choice.{by}
 use Rattle.settings.specs.declared.Volume.{Volume}
 use Rattle.settings.specs.Limits.{travel_most}
@@ -15,8 +16,6 @@ use Rattle.command.specs.declared.Way.TheVariants.{To}
 use Rattle.command.specs.declared.Command.{Command}
 use Rattle.command.specs.declared.Command.TheVariants as C
 use Rattle.text.specs.Data.{spaceless, control_of, data_of, received_of}
-use Rattle.level.specs.declared.Pressure.{Pressure}
-use Rattle.level.specs.declared.Pressure.TheVariants.{Counts}
 use Rattle.level.specs.declared.Finding.{Finding}
 use Rattle.level.specs.Level.{sought_of}
 use Rattle.motion.specs.declared.Sense.{Sense}
@@ -25,8 +24,6 @@ use Rattle.motion.specs.declared.Travel.{Travel}
 use Rattle.motion.specs.declared.Effect.{Effect}
 use Rattle.motion.specs.declared.Effect.TheVariants.{Ends}
 use Rattle.motion.specs.declared.Activity.TheVariants.{Initialising, Moving, Delaying, Approaching, Searching, Ejecting, Between}
-use Rattle.motion.specs.declared.Target.{Target}
-use Rattle.motion.specs.declared.Target.TheVariants.{At, Outside}
 use Rattle.motion.specs.Events.{start, Turn}
 use Rattle.motion.specs.Bodies.{later_of, plunger_of, body_at}
 use Rattle.motion.specs.Detect.{felt_in, place_for, zeroed_of, detect_of, ends_here, approached_of, found_as, searched_of}
@@ -51,14 +48,14 @@ use Rattle.demands.specs.Demands.{Takes}
 use Rattle.demands.specs.Records.{asked, CarriedOut, Detects, detecting, MovesNothing, plunger_at, Records, Recording}
 
 -- a place within travel is the place asked for
-place : Target → ℕ
-place (At exact) = exact
-place Outside = 0
+place : Option ℕ → ℕ
+place (Some exact) = exact
+place None = 0
 
-within_is : (by_it exact : ℕ) → within by_it ≡ At exact → exact ≡ by_it
+within_is : (by_it exact : ℕ) → within by_it ≡ Some exact → exact ≡ by_it
 unfolding within place
 within_is by_it exact =
-    by (λ (t : Target). t ≡ At exact → exact ≡ by_it) (ltb travel_most by_it)
+    by (λ (t : Option ℕ). t ≡ Some exact → exact ≡ by_it) (ltb travel_most by_it)
     (λ h e. let z : ◌≡◌ {A = ℕ} 0 1 = cc in absurd (omega arith))
     (λ h e. sym (ap place e))
 
@@ -120,15 +117,15 @@ module _ (s : Sense) (k : Controller) where
   idle_adds Done h n = refl
 
   -- B
-  detect_adds : (here : Bool) (d : Detects s k here) → (ticked_of s k).events ≡ (zeroed_of here (Counts d.z) k.device.core.body).events
+  detect_adds : (here : Bool) (d : Detects s k here) → (ticked_of s k).events ≡ (zeroed_of here (Some d.z) k.device.core.body).events
   unfolding effect_of detect_of
   detect_adds here d = taking (C.Detect here) d.takes ∙ rw (d.initialised, d.way, d.reading)
 
-  zeroed_false : (z : ℕ) → (zeroed_of false (Counts z) k.device.core.body).events ≡ start (place_for k.device.core.body) ∷ []
+  zeroed_false : (z : ℕ) → (zeroed_of false (Some z) k.device.core.body).events ≡ start (place_for k.device.core.body) ∷ []
   unfolding zeroed_of
   zeroed_false z = refl
 
-  zeroed_true : (z : ℕ) → (zeroed_of true (Counts z) k.device.core.body).events ≡ []
+  zeroed_true : (z : ℕ) → (zeroed_of true (Some z) k.device.core.body).events ≡ []
   unfolding zeroed_of
   zeroed_true z = refl
 
@@ -146,7 +143,7 @@ module _ (s : Sense) (k : Controller) where
       (λ _. ((λ h. absurd (false≢true h)), (λ h. refl)))
       (λ _. ((λ h. absurd (false≢true h)), (λ h. refl)))
 
-  approached_adds : (p : Pressure) (t : Travel) (z : ℕ) (b : Body) → Adds (approached_of p t z b)
+  approached_adds : (p : Option ℕ) (t : Travel) (z : ℕ) (b : Body) → Adds (approached_of p t z b)
   unfolding applied_of
   approached_adds p t z b =
       approached_by Adds p t z b ((λ h. absurd (false≢true h)), (λ h. refl)) ((λ h. refl), (λ h. absurd (true≢false h))) ((λ h. refl), (λ h. absurd (true≢false h)))

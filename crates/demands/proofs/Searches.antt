@@ -6,15 +6,14 @@ use Prim.Native.Nat.{ℕ, ◌*◌}
 use native.Mathlib.Omega.{arith}
 use lib.Dec.{ltb}
 use lib.ListN.{length, take}
+use Rattle.std.specs.Prelude.{Err, Ok, Option}
+use Rattle.command.specs.Verdict.{Verdict}
 use Rattle.basics.proofs.Choice.{by}
 use Rattle.settings.specs.declared.Detection.{Detection}
 use Rattle.settings.specs.declared.Settings.{Settings}
 use Rattle.settings.specs.Limits.{Detected}
 use Rattle.command.specs.declared.refusal.Refusal.{Refusal}
 use Rattle.command.specs.declared.refusal.Refusal.TheVariants as R
-use Rattle.command.specs.declared.refusal.Verdict.{Verdict}
-use Rattle.command.specs.declared.refusal.Verdict.TheVariants.{Fine, Refused}
-use Rattle.level.specs.declared.Pressure.{Pressure}
 use Rattle.level.specs.declared.Search.{Search}
 use Rattle.level.specs.declared.Finding.{Finding}
 use Rattle.level.specs.declared.Finding.TheVariants.{TooMuch, Found, Missed, On}
@@ -86,8 +85,8 @@ module _ (c : Core) (b : Body) where
     plunger : t.core.body.plunger ≡ b.plunger
     settings : t.core.body.settings ≡ b.settings
     goes_on_only : (g : Search) → Seeks t.core.course.state g → f ≡ On g
-    finds_only : t.news.failed ≡ Fine → Rests t.core.course.state → f ≡ Found
-    finds : f ≡ Found → (t.news.failed ≡ Fine) × Rests t.core.course.state
+    finds_only : t.news.failed ≡ Ok tt → Rests t.core.course.state → f ≡ Found
+    finds : f ≡ Found → (t.news.failed ≡ Ok tt) × Rests t.core.course.state
     settles : Rests t.core.course.state → t.core.body.exact ≡ t.core.body.plunger * 1000000
 
   failing : (why : Refusal) (f : Finding) → (f ≡ Found → ⊥) → Left f (fails why (settled_at b) c.course)
@@ -185,8 +184,8 @@ module _ (c : Core) where
 
   acted_stays : (order : Order) (v : Verdict) (n : ℕ) → Stays c (acted_of order v n c).next
   unfolding acted_of
-  acted_stays order Fine n = done_stays order n
-  acted_stays order (Refused why) n = same_stays c
+  acted_stays order (Ok tt) n = done_stays order n
+  acted_stays order (Err why) n = same_stays c
 
 task_stays : (t : Task) (added : List ℕ) (d : Device) → Stays d.core (performed_of t added d).next.device.core
 unfolding performed_of act_of
@@ -209,7 +208,7 @@ byte_stays b buf k =
 
 -- what holds of a controller that has been searching
 module _ (d : Detection) (from z : ℕ) where
-  record Under (ps : List Pressure) (k : Controller) : Type 0 where
+  record Under (ps : List (Option ℕ)) (k : Controller) : Type 0 where
     search : Search
     searches : Searches k search
     through : Through d from z ps search
@@ -217,7 +216,7 @@ module _ (d : Detection) (from z : ℕ) where
     valid : Valid k
     sized : Sized k
 
-  under : (ps : List Pressure) (k : Controller) → Seeking d from z ps k → Under ps k
+  under : (ps : List (Option ℕ)) (k : Controller) → Seeking d from z ps k → Under ps k
   unfolding call_of
   under x y (begins a calls e set) =
       let sound = every_controller_is_sound a calls in
@@ -245,7 +244,7 @@ module _ (d : Detection) (from z : ℕ) where
         sized = call_keeps_sized (byte b (lent buf)) k u.sized u.valid;
       }
 
-  sought : (ps : List Pressure) (k : Controller) → Under ps k → Promises d from z → Sought d from z ps k
+  sought : (ps : List (Option ℕ)) (k : Controller) → Under ps k → Promises d from z → Sought d from z ps k
   sought ps k u promises =
       let f = u.search in
       let l = leaves_so d k f u.searches u.set in

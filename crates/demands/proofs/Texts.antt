@@ -6,11 +6,10 @@ use mathlib.Core.List.{List, [], ◌++◌}
 use Prim.Native.Nat.{ℕ, zero, suc, ◌+◌, ◌%◌, ◌≤◌}
 use native.Mathlib.Omega.{arith}
 use lib.ListN.{length, take, get_or}
-use Rattle.std.specs.Prelude.{if◌then◌else◌}
+use Rattle.std.specs.Prelude.{if◌then◌else◌, Err, Ok}
 use Rattle.basics.specs.Lay.{over}
 use Rattle.command.specs.declared.refusal.Refusal.{Refusal}
 use Rattle.command.specs.declared.refusal.Refusal.TheVariants as R
-use Rattle.command.specs.declared.refusal.Verdict.TheVariants.{Fine, Refused}
 use Rattle.command.proofs.Numbers.{zero_is_fine}
 use Rattle.text.specs.declared.Data.TheVariants as D
 use Rattle.text.specs.Data.{spaceless, body, received_of}
@@ -99,12 +98,12 @@ loads run (Running a) stored = loads_while run (while_of a) stored (column_while
 -- the text that is held after a string is accepted
 stored_by_lem :
     (added : List ℕ) (d : Device) → Ready d.core d.text → (run : Bool) (o : Order) (front : List ℕ) → order_of (string_action run) d.core.course.state ≡ o →
-    Loads run (held d) o front → verdict_for (string_action run) added d ≡ Fine → held (act_of (string_action run) added d).next.device ≡ front ++ added
+    Loads run (held d) o front → verdict_for (string_action run) added d ≡ Ok tt → held (act_of (string_action run) added d).next.device ≡ front ++ added
 unfolding verdict_of
 stored_by_lem added d ready run o front e joins ok = a_string_that_is_loaded_is_stored_whole (string_action run) added d Joined run ready ok e
 stored_by_lem added d ready run o front e replaces ok = a_string_that_is_loaded_is_stored_whole (string_action run) added d Replacing run ready ok e
 stored_by_lem added d ready run o front e (refuses why other) ok =
-    let z : Refused why ≡ Fine = rw e at ok in
+    let z : Err why ≡ Ok tt = rw e at ok in
     let y : ◌≡◌ {A = ℕ} 0 1 = cc in
     absurd (omega arith)
 
@@ -115,13 +114,13 @@ started false m c = refl
 
 course_by :
     (added : List ℕ) (d : Device) (run : Bool) (o : Order) (front : List ℕ) → order_of (string_action run) d.core.course.state ≡ o →
-    Loads run (held d) o front → verdict_for (string_action run) added d ≡ Fine →
+    Loads run (held d) o front → verdict_for (string_action run) added d ≡ Ok tt →
     (m : ℕ) × ((act_of (string_action run) added d).next.device.core.course ≡ course_of 0 m no_loops (waits_or_runs run) 0 0)
 unfolding verdict_of act_of acted_of done_of
 course_by added d run o front e joins ok = (d.core.course.len + length added, rw (ok, e) (started run (d.core.course.len + length added) d.core.course))
 course_by added d run o front e replaces ok = (0 + length added, rw (ok, e) (started run (0 + length added) d.core.course))
 course_by added d run o front e (refuses why other) ok =
-    let z : Refused why ≡ Fine = rw e at ok in
+    let z : Err why ≡ Ok tt = rw e at ok in
     let y : ◌≡◌ {A = ℕ} 0 1 = cc in
     absurd (omega arith)
 
@@ -153,7 +152,7 @@ module _ (ds : List ℕ) (n : ℕ) (run : Bool) (string : received_of ds ≡ D.T
       let says = rw status_is at e in
       accepted_is_0 (refusal_of ds a d) (no_other_number ds a d) (omega arith)
 
-  is_fine : refusal_of ds a d ≡ 0 → verdict_for (string_action run) (body (spaceless ds)) d ≡ Fine
+  is_fine : refusal_of ds a d ≡ 0 → verdict_for (string_action run) (body (spaceless ds)) d ≡ Ok tt
   is_fine e = zero_is_fine (verdict_for (string_action run) (body (spaceless ds)) d) (rw number_is at e)
 
   pub kept : Ready d.core d.text → refusal_of ds a d ≡ 0 → held (exchange_of f ds a d buf).next.device ≡ whole_of ds d

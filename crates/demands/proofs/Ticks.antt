@@ -4,10 +4,11 @@ use mathlib.Core.List.{◌++◌}
 use Prim.Native.Nat.{ℕ, zero, suc}
 use lib.Dec.{ltb}
 use lib.ListN.{replicate}
+use Rattle.std.specs.Prelude.{Err, Ok}
+use Rattle.machine.specs.Used.{s3}
 use Rattle.basics.proofs.Choice.{by}
 use Rattle.motion.specs.declared.Sense.{Sense}
 use Rattle.machine.specs.declared.Ran.{Ran}
-use Rattle.machine.specs.declared.Used.TheVariants.{Ticks, S3}
 use Rattle.machine.specs.Run.{ticks_of, used_of}
 use Rattle.machine.specs.declared.Device.{Device}
 use Rattle.machine.specs.Step.{around, fine}
@@ -42,7 +43,7 @@ module _ (s : Sense) where
       let d = k.device in
       let count = used_of n (around d.text s) (fine d.core) in
       by (λ (r : Ran). ticked r.turned k ≡ advanced_of (ticks_used r.used) s k) (ltb 60000 n)
-      {a = record { turned = turned 0 s d (fine d.core); used = S3 }} {b = record { turned = advance_of count s d; used = Ticks count }}
+      {a = record { turned = turned 0 s d (fine d.core); used = Err s3 }} {b = record { turned = advance_of count s d; used = Ok count }}
       (λ h. refl)
       (λ h. refl)
 

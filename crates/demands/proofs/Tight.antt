@@ -53,17 +53,8 @@ pub basics_lay : Tight basics.lay.Kinds.ps basics.lay.Kinds.r basics.lay.Reads.L
 basics_lay κs args z z' ws ws' p q = lent (λ y. (tt, (y, (tt, tt)))) p.said q.said p.left q.left
 
 -- decimal
-pub decimal_put_whole : Tight decimal.put_whole.Kinds.ps decimal.put_whole.Kinds.r decimal.put_whole.Reads.Learnt
-decimal_put_whole κs args z z' ws ws' p q = lent (λ y. (tt, (y, (tt, tt)))) p.said q.said p.left q.left
-
-pub decimal_put_long : Tight decimal.put_long.Kinds.ps decimal.put_long.Kinds.r decimal.put_long.Reads.Learnt
-decimal_put_long κs args z z' ws ws' p q = lent (λ y. (tt, (y, (tt, tt)))) p.said q.said p.left q.left
-
-pub decimal_put_tenths : Tight decimal.put_tenths.Kinds.ps decimal.put_tenths.Kinds.r decimal.put_tenths.Reads.Learnt
-decimal_put_tenths κs args z z' ws ws' p q = lent (λ y. (tt, (y, (tt, tt)))) p.said q.said p.left q.left
-
-pub decimal_put_thousandths : Tight decimal.put_thousandths.Kinds.ps decimal.put_thousandths.Kinds.r decimal.put_thousandths.Reads.Learnt
-decimal_put_thousandths κs args z z' ws ws' p q = lent (λ y. (tt, (y, (tt, tt)))) p.said q.said p.left q.left
+pub decimal_put : Tight decimal.put.Kinds.ps decimal.put.Kinds.r decimal.put.Reads.Learnt
+decimal_put κs args z z' ws ws' p q = lent (λ y. (tt, (tt, (y, (tt, tt))))) p.0.said q.0.said p.0.left q.0.left
 
 -- units
 pub units_tenths : Tight units.tenths.Kinds.ps units.tenths.Kinds.r units.tenths.Reads.Learnt
@@ -91,7 +82,7 @@ units_gone κs args z z' ws ws' p q = result p q
 pub settings_Range_has : Tight settings.Range.has.Kinds.ps settings.Range.has.Kinds.r settings.Range.has.Reads.Learnt
 settings_Range_has κs args z z' ws ws' p q = result p q
 
-pub settings_Settings_default : Tight settings.Settings.default.Kinds.ps settings.Settings.default.Kinds.r settings.Settings.default.Reads.Learnt
+pub settings_Settings_default : Tight settings.SettingsDefault.default.Kinds.ps settings.SettingsDefault.default.Kinds.r settings.SettingsDefault.default.Reads.Learnt
 settings_Settings_default κs args z z' ws ws' p q = result p q
 
 pub settings_Settings_range : Tight settings.Settings.range.Kinds.ps settings.Settings.range.Kinds.r settings.Settings.range.Reads.Learnt
@@ -144,11 +135,8 @@ command_refusal_Refusal_number κs args z z' ws ws' p q = result p q
 pub command_refusal_Refusal_column : Tight command.refusal.Refusal.column.Kinds.ps command.refusal.Refusal.column.Kinds.r command.refusal.Refusal.column.Reads.Learnt
 command_refusal_Refusal_column κs args z z' ws ws' p q = result p q
 
-pub command_refusal_Verdict_number : Tight command.refusal.Verdict.number.Kinds.ps command.refusal.Verdict.number.Kinds.r command.refusal.Verdict.number.Reads.Learnt
-command_refusal_Verdict_number κs args z z' ws ws' p q = result p q
-
-pub command_refusal_Verdict_first : Tight command.refusal.Verdict.first.Kinds.ps command.refusal.Verdict.first.Kinds.r command.refusal.Verdict.first.Reads.Learnt
-command_refusal_Verdict_first κs args z z' ws ws' p q = result p q
+pub command_refusal_number : Tight command.refusal.number.Kinds.ps command.refusal.number.Kinds.r command.refusal.number.Reads.Learnt
+command_refusal_number κs args z z' ws ws' p q = result p q
 
 pub command_command_at : Tight command.command_at.Kinds.ps command.command_at.Kinds.r command.command_at.Reads.Learnt
 command_command_at κs args z z' ws ws' p q = result p q
@@ -338,8 +326,8 @@ pub machine_Device_stop : Tight machine.Device.stop.Kinds.ps machine.Device.stop
 machine_Device_stop κs args z z' ws ws' p q = result p q
 
 -- pipettor
-pub pipettor_address_Address_of : Tight pipettor.address.Address.of.Kinds.ps pipettor.address.Address.of.Kinds.r pipettor.address.Address.of.Reads.Learnt
-pipettor_address_Address_of κs args z z' ws ws' p q = result p q
+pub pipettor_address_Address_try_from : Tight pipettor.address.AddressTryFromU32.try_from.Kinds.ps pipettor.address.AddressTryFromU32.try_from.Kinds.r pipettor.address.AddressTryFromU32.try_from.Reads.Learnt
+pipettor_address_Address_try_from κs args z z' ws ws' p q = result p q
 
 pub pipettor_address_Address_letter : Tight pipettor.address.Address.letter.Kinds.ps pipettor.address.Address.letter.Kinds.r pipettor.address.Address.letter.Reads.Learnt
 pipettor_address_Address_letter κs args z z' ws ws' p q = result p q

@@ -5,6 +5,8 @@ use mathlib.Core.List.{List, ◌++◌}
 use Prim.Native.Nat.{ℕ, zero, suc, ◌≤◌, ◌<◌}
 use native.Mathlib.Omega.{arith}
 use lib.Dec.{ltb}
+use Rattle.std.specs.Prelude.{Ok, Result}
+use Rattle.machine.specs.declared.S3.{S3}
 use Rattle.basics.proofs.Choice.{by}
 use Rattle.motion.specs.declared.Sense.{Sense}
 use Rattle.motion.specs.Events.{Event, Turn}
@@ -12,8 +14,6 @@ use Rattle.machine.specs.declared.step.News.{News}
 use Rattle.machine.specs.declared.step.Stepped.{Stepped}
 use Rattle.machine.specs.declared.Device.{Device}
 use Rattle.machine.specs.declared.Ran.{Ran}
-use Rattle.machine.specs.declared.Used.{Used}
-use Rattle.machine.specs.declared.Used.TheVariants.{Ticks}
 use Rattle.machine.specs.Step.{around, no_news, both_of, fine, stepped, step_of, next_of}
 use Rattle.machine.specs.Run.{ticks_of, used_of}
 use Rattle.machine.specs.Device.{device, tip_after, tick_of, halted_of, advance_of, ran_of}
@@ -72,7 +72,7 @@ module _ (t : Bool) (s : Sense) where
 
     same_used : (run_of n other (tipped u k)).used ≡ (run_of n s k).used
     unfolding run_of ran_of
-    same_used = both_ways (λ (r : Ran). r.used) (λ (r : Ran). r.used) (ltb 60000 n) _ _ _ _ refl (ap Ticks (sym same_count))
+    same_used = both_ways (λ (r : Ran). r.used) (λ (r : Ran). r.used) (ltb 60000 n) _ _ _ _ refl (ap Ok (sym same_count))
 
   ticks_same : (n : ℕ) (k : Controller) (u : Bool) → ApartFor n s k → SameBut31 (advance n s) (advance n other) k (tipped u k)
   unfolding call_of answer_of
@@ -100,15 +100,15 @@ module _ (t : Bool) (s : Sense) where
       let count = same_used n k u apart in
       let ticks = ticks_same m k u (fewer m n k (uses_within n k) apart) in
       let here = to_run_is_to_advance s n k in
-      let there : call_of (run n other) (tipped u k) ≡ call_of (advance m other) (tipped u k) = to_run_is_to_advance other n (tipped u k) ∙ ap (λ (x : Used). call_of (advance (ticks_used x) other) (tipped u k)) count in
-      let tells : (run_of n other (tipped u k)).ticked ≡ advanced_of m other (tipped u k) = a_run_hands_back_what_its_ticks_do other n (tipped u k) ∙ ap (λ (x : Used). advanced_of (ticks_used x) other (tipped u k)) count in
+      let there : call_of (run n other) (tipped u k) ≡ call_of (advance m other) (tipped u k) = to_run_is_to_advance other n (tipped u k) ∙ ap (λ (x : Result ℕ S3). call_of (advance (ticks_used x) other) (tipped u k)) count in
+      let tells : (run_of n other (tipped u k)).ticked ≡ advanced_of m other (tipped u k) = a_run_hands_back_what_its_ticks_do other n (tipped u k) ∙ ap (λ (x : Result ℕ S3). advanced_of (ticks_used x) other (tipped u k)) count in
       record {
         tip = ticks.tip;
         controller = ap (λ (x : Turn Controller). x.next) there ∙ ticks.controller ∙ sym (ap (λ (x : Turn Controller). tipped ticks.tip x.next) here);
         events = ap (λ (x : Turn Controller). x.events) there ∙ ticks.events ∙ sym (ap (λ (x : Turn Controller). x.events) here);
         answer =
             λ h.
-            ap (λ (x : Used). used (run_of n other (tipped u k)).ticked.news x) count
+            ap (λ (x : Result ℕ S3). used (run_of n other (tipped u k)).ticked.news x) count
             ∙ ap (λ (x : Ticked). used x.news (run_of n s k).used) (tells ∙ same_advance m k u (fewer m n k (uses_within n k) apart))
             ∙ sym (ap (λ (x : Ticked). used x.news (run_of n s k).used) (a_run_hands_back_what_its_ticks_do s n k));
       }

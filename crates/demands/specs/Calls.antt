@@ -1,16 +1,16 @@
 -- The calls on a controller, from making on: what each leaves behind, adds to the history, and hands back.
-use Rattle.std.specs.Prelude.{ℕ, List, [], ◌∷◌, ◌++◌, replicate}
+use Rattle.std.specs.Prelude.{ℕ, List, [], ◌∷◌, ◌++◌, replicate, Err, Ok, Result}
+use Rattle.pipettor.specs.Said.{Said}
+use Rattle.machine.specs.declared.S3.{S3}
+use Rattle.machine.specs.Used.{s3}
 use Rattle.line.specs.declared.Framing.{Framing}
 use Rattle.motion.specs.declared.Sense.{Sense}
 use Rattle.motion.specs.Events.{Event, Turn, quiet}
 use Rattle.machine.specs.declared.Device.{Device}
 use Rattle.machine.specs.declared.step.News.{News}
-use Rattle.machine.specs.declared.Used.{Used}
-use Rattle.machine.specs.declared.Used.TheVariants.{Ticks, S3}
 use Rattle.machine.specs.History as Machine
 use Rattle.pipettor.specs.declared.address.Address.{Address}
 use Rattle.pipettor.specs.declared.Controller.{Controller}
-use Rattle.pipettor.specs.declared.Said.{Said}
 use Rattle.pipettor.specs.Byte.{byte_of}
 use Rattle.pipettor.specs.Listening.{listened_of}
 use Rattle.pipettor.specs.Controller.{made_of, ticked_of, stopped_of, advanced_of, run_of}
@@ -36,9 +36,9 @@ unfoldable pub ticks_events : ℕ → Sense → Device → List Event
 ticks_events n s d = Machine.events_of (replicate n (Machine.tick s)) d
 
 -- "the answer says how many ticks it used"; "S3: .. nothing changed"
-abbrev pub ticks_used : Used → ℕ
-ticks_used (Ticks n) = n
-ticks_used S3 = 0
+abbrev pub ticks_used : Result ℕ S3 → ℕ
+ticks_used (Ok n) = n
+ticks_used (Err _) = 0
 
 -- the controller after a call, and what the call adds to the history
 unfoldable pub call_of : Call → Controller → Turn Controller
@@ -55,7 +55,7 @@ pub data Answered : Type 0 where
   said : Said → Lent → Answered
   taken : ℕ → Answered
   told : News → Answered
-  used : News → Used → Answered
+  used : News → Result ℕ S3 → Answered
   nothing : Answered
 
 unfoldable pub answer_of : Call → Controller → Answered

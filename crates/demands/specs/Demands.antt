@@ -1,16 +1,16 @@
 -- The three demands, over any calls from making. What they say of frames stands in `specs/Frames`, of what calls leave in hand in `specs/InHand`. `proofs/Demands` proves 1 and 3, `proofs/Agreement` 2.
-use Rattle.std.specs.Prelude.{ℕ, ◌≤◌, ◌<◌, ◌≡◌, ◌⊎◌, Bool, true, false, List, [], ◌∷◌, ◌++◌, length, take, drop, if◌then◌else◌}
+use Rattle.std.specs.Prelude.{ℕ, ◌≤◌, ◌<◌, ◌≡◌, ◌⊎◌, Bool, true, false, List, [], ◌∷◌, ◌++◌, length, take, drop, if◌then◌else◌, Err, None, Ok, Some}
+use Rattle.pipettor.specs.Said.{Said, s1}
 use Rattle.basics.specs.Exactly.{Exactly}
 use Rattle.settings.specs.declared.Volume.{Volume}
+use Rattle.settings.specs.declared.Volume.TheVariants as V
 use Rattle.command.specs.declared.refusal.Refusal.{Refusal}
-use Rattle.command.specs.declared.refusal.Verdict.TheVariants.{Fine, Refused}
 use Rattle.command.specs.declared.Command.{Command}
 use Rattle.command.specs.declared.Command.TheVariants as C
 use Rattle.command.specs.Numbers.{verdict_number}
 use Rattle.text.specs.declared.Question.TheVariants as Q
 use Rattle.line.specs.declared.Report.TheVariants.{Whole}
 use Rattle.line.specs.Wire.{Form, formed, Sendable, Hears as ReceiverHears}
-use Rattle.level.specs.declared.Pressure.TheVariants.{Beyond}
 use Rattle.level.specs.declared.Search.{Search}
 use Rattle.level.specs.declared.Finding.TheVariants.{Missed}
 use Rattle.level.specs.Level as Level
@@ -24,19 +24,14 @@ use Rattle.motion.specs.declared.Travel.{Travel}
 use Rattle.motion.specs.Events.{quiet, start, volume}
 use Rattle.buffer.specs.declared.course.State.TheVariants.{Empty, Running}
 use Rattle.buffer.specs.Course.{failed_of}
-use Rattle.machine.specs.declared.Used.TheVariants.{Ticks}
 use Rattle.machine.specs.Step.{core, news, no_news}
 use Rattle.machine.specs.Device.{device}
 use Rattle.machine.specs.History.{sum_of, IsSum, StandsBy, moving}
 use Rattle.machine.specs.OnCourse as OnCourse
 use Rattle.machine.specs.OnCourse.{Cause, Fault, left_in}
 use Rattle.machine.specs.Tips.{Ejects, NoE}
-use Rattle.reports.specs.declared.Told.TheVariants.{Says}
 use Rattle.pipettor.specs.declared.address.Address.{Address}
-use Rattle.pipettor.specs.declared.address.Given.TheVariants.{Is}
 use Rattle.pipettor.specs.declared.Controller.{Controller}
-use Rattle.pipettor.specs.declared.Said.{Said}
-use Rattle.pipettor.specs.declared.Said.TheVariants.{Silent, Answer, S1}
 use Rattle.pipettor.specs.Address.{letter_of, address_of}
 use Rattle.pipettor.specs.Valid.{Valid}
 use Rattle.pipettor.specs.Byte as Byte
@@ -52,7 +47,7 @@ use Rattle.demands.specs.Script.{bench}
 -- 1. Every call is answered, and refuses as 01's table says.
 -- a run's count of ticks: no more than allowed, not ready before so many, and ready after them where fewer than allowed are used
 pub record Counted (n : ℕ) (s : Sense) (k : Controller) (count : ℕ) : Type 0 where
-  pub run : run_of n s k ≡ record { ticked = advanced_of count s k; used = Ticks count }
+  pub run : run_of n s k ≡ record { ticked = advanced_of count s k; used = Ok count }
   pub within : count ≤ n
   pub busy_before : (i : ℕ) → i < count → ready_is (advanced_of i s k).controller ≡ false
   pub ready_after : count < n → ready_is (advanced_of count s k).controller ≡ true
@@ -65,9 +60,9 @@ pub record AsksWithin (n : ℕ) (s : Sense) (k : Controller) : Type 0 where
 
 -- what a byte leaves of the buffer: "A silent byte and an S refusal write nothing to the answer buffer. Bytes after an answer's end stay as they were."
 abbrev pub Written : Said → List ℕ → List ℕ → Type 0
-Written Silent before after = after ≡ before
-Written S1 before after = after ≡ before
-Written (Answer n) before after = (n ≤ 20) × (length after ≡ length before) × (drop n after ≡ drop n before)
+Written (Ok None) before after = after ≡ before
+Written (Err _) before after = after ≡ before
+Written (Ok (Some n)) before after = (n ≤ 20) × (length after ≡ length before) × (drop n after ≡ drop n before)
 
 -- the next tick takes a command
 abbrev pub Takes : Controller → Command → Type 0
@@ -95,7 +90,7 @@ pub record Answers (k : Controller) : Type 0 where
   pub every_premise_holds : Valid k
   -- "S1: answer buffer lent is shorter than 32 bytes: controller and buffer unchanged"; it comes before everything else
   pub a_short_buffer_is_S1 : (b : ℕ) (buf : List ℕ) → Exactly (said_is (byte_of k b buf).next.reply.said ≡ S 1) (length buf < 32)
-  pub S1_changes_nothing : (b : ℕ) (buf : List ℕ) → length buf < 32 → byte_of k b buf ≡ quiet (Byte.after (Byte.reply k S1) buf)
+  pub S1_changes_nothing : (b : ℕ) (buf : List ℕ) → length buf < 32 → byte_of k b buf ≡ quiet (Byte.after (Byte.reply k (Err s1)) buf)
   pub a_byte_writes_its_answer_only : (b : ℕ) (buf : List ℕ) → (let r = (byte_of k b buf).next in Written r.reply.said buf r.buffer)
   -- the bytes of a frame to us, whatever its data, in the framing of the controller and where no sum of an earlier one is due: it gets each number exactly where 01's table gives it, and leaves what the table says
   pub a_frame_is_treated_by_the_table :
@@ -113,16 +108,16 @@ pub record Answers (k : Controller) : Type 0 where
       Fault k.device.text s k.device.core
   -- each refusal exactly where there is its cause. A, P and D: 7 where the plunger is not initialised, else 3 where v is above V (02, W-205), else 3 for a goal outside travel.
   -- 02, W-203: "10 for E0 without a tip; 7 for E1 uninitialised; 8 for a failed eject"
-  pub a_run_fails_exactly_for_a_cause : (s : Sense) (why : Refusal) → Exactly ((ticked_of s k).next.news.failed ≡ Refused why) (CauseIn s k why)
+  pub a_run_fails_exactly_for_a_cause : (s : Sense) (why : Refusal) → Exactly ((ticked_of s k).next.news.failed ≡ Err why) (CauseIn s k why)
   pub ten_is_an_E0_without_a_tip : (s : Sense) → Exactly (verdict_number (ticked_of s k).next.news.failed ≡ 10) (Takes k (C.Eject false) × (s.tip ≡ false))
   -- 02, W-206: "5 for a reading outside -32767 to 32767 in any tick from the one that takes B, 6 when p4 increments or the end of travel are reached in a tick without a find"
-  pub five_is_a_reading_outside : (s : Sense) → Exactly (verdict_number (ticked_of s k).next.news.failed ≡ 5) (FeelsFor k × (felt_in s ≡ Beyond))
+  pub five_is_a_reading_outside : (s : Sense) → Exactly (verdict_number (ticked_of s k).next.news.failed ≡ 5) (FeelsFor k × (felt_in s ≡ None))
   pub six_is_a_search_without_a_find : (s : Sense) → Exactly (verdict_number (ticked_of s k).next.news.failed ≡ 6) (MissesIn s k)
   pub eight_is_a_tip_still_there : (s : Sense) → Exactly (verdict_number (ticked_of s k).next.news.failed ≡ 8) ((k.device.core.course.state ≡ Running Ejecting) × (s.tip ≡ true))
   -- and what is left of it
   pub a_run_that_fails_leaves :
       (s : Sense) (why : Refusal) → CauseIn s k why →
-      (ticked_of s k).next ≡ record { controller = on (device k.device.text s.tip (core (left_in k.device.core.course.state k.device.core.body) (failed_of why k.device.core.course))) k; news = news (Refused why) false }
+      (ticked_of s k).next ≡ record { controller = on (device k.device.text s.tip (core (left_in k.device.core.course.state k.device.core.body) (failed_of why k.device.core.course))) k; news = news (Err why) false }
   -- 02, W-203: "The tick that takes it asks the host to eject (a run says if any tick did)": once for each E that is taken and not refused, and in no other tick
   pub the_host_is_asked_once_for_each_E : (s : Sense) → Exactly ((ticked_of s k).next.news.eject ≡ true) (Ejects k.device.text s k.device.core)
   pub ticks_ask_where_one_does : (n : ℕ) (s : Sense) → Exactly ((advanced_of n s k).news.eject ≡ true) (AsksWithin n s k)
@@ -131,17 +126,17 @@ pub record Answers (k : Controller) : Type 0 where
   pub a_tick_brings_the_tip_sensed : (s : Sense) → (ticked_of s k).next.controller.device.tip ≡ s.tip
   pub no_byte_changes_the_tip : (b : ℕ) (buf : List ℕ) → (byte_of k b buf).next.reply.controller.device.tip ≡ k.device.tip
   pub the_stop_leaves_the_tip : (stopped_of k).next.device.tip ≡ k.device.tip
-  pub q31_tells_the_tip : told_of (Q.Value 31) k.address k.device.tip k.device.core ≡ Says (Whole (if k.device.tip then 1 else 0))
+  pub q31_tells_the_tip : told_of (Q.Value 31) k.address k.device.tip k.device.core ≡ Some (Whole (if k.device.tip then 1 else 0))
   -- 02, W-202: "It is 0 after .. an error in a run"; no other tick changes it, nor the host's stop
-  pub an_error_in_a_run_has_no_column : (s : Sense) (why : Refusal) → (ticked_of s k).next.news.failed ≡ Refused why → (ticked_of s k).next.controller.device.core.course.misread ≡ 0
-  pub any_other_tick_leaves_the_column : (s : Sense) → (ticked_of s k).next.news.failed ≡ Fine → (ticked_of s k).next.controller.device.core.course.misread ≡ k.device.core.course.misread
+  pub an_error_in_a_run_has_no_column : (s : Sense) (why : Refusal) → (ticked_of s k).next.news.failed ≡ Err why → (ticked_of s k).next.controller.device.core.course.misread ≡ 0
+  pub any_other_tick_leaves_the_column : (s : Sense) → (ticked_of s k).next.news.failed ≡ Ok tt → (ticked_of s k).next.controller.device.core.course.misread ≡ k.device.core.course.misread
   pub the_stop_leaves_the_column : (stopped_of k).next.device.core.course.misread ≡ k.device.core.course.misread
   -- "a cut W leaves us uninitialised"
   pub a_cut_W_leaves_it_uninitialised : (t : Travel) → k.device.core.course.state ≡ Running (Initialising t) → (stopped_of k).next.device.core.body.initialised ≡ false
 
 -- making: "Our address is one of `1` to `9`"; "S2: address outside 1 to 9 at making: no controller is made"
 pub record Makes : Type 0 where
-  pub one_to_nine : (a : Address) → (n : ℕ) × (given_is (address_of n) ≡ number n) × (address_of n ≡ Is a)
+  pub one_to_nine : (a : Address) → (n : ℕ) × (given_is (address_of n) ≡ number n) × (address_of n ≡ Ok a)
   pub any_other_is_S2 : (n : ℕ) → Exactly (given_is (address_of n) ≡ S 2) ((n ≡ 0) ⊎ (9 < n))
 
 pub record TotalityAndRefusals : Type 0 where
@@ -174,7 +169,7 @@ pub record Agreement : Type 1 where
   pub every_program_receives : (p : Program) → Meets p → (a : Making) (calls : List Call) → ReceivesBy p a calls
 
 abbrev nL : ℕ → Volume
-nL n = record { amount = n; micro = true }
+nL n = V.Nanolitres n
 
 -- 3. Where the plunger stands, of a controller and the history of the calls it comes from:
 pub record Stands (a : Making) (calls : List Call) : Type 0 where

@@ -1,5 +1,6 @@
 -- Frames as bytes given one after the other: what is seen of one, the number it gets and what it leaves; and the calls that give bytes.
-use Rattle.std.specs.Prelude.{ℕ, ◌≡◌, true, false, List, [], ◌∷◌, ◌++◌, length, replicate}
+use Rattle.std.specs.Prelude.{ℕ, ◌≡◌, true, false, List, [], ◌∷◌, ◌++◌, length, replicate, None, Ok}
+use Rattle.pipettor.specs.Said.{Said}
 use Rattle.basics.specs.Exactly.{Exactly}
 use Rattle.text.specs.Data.{received_of}
 use Rattle.line.specs.declared.Framing.{Framing}
@@ -8,8 +9,6 @@ use Rattle.motion.specs.Events.{Turn}
 use Rattle.machine.specs.declared.Device.{Device}
 use Rattle.pipettor.specs.declared.address.Address.{Address}
 use Rattle.pipettor.specs.declared.Controller.{Controller}
-use Rattle.pipettor.specs.declared.Said.{Said}
-use Rattle.pipettor.specs.declared.Said.TheVariants.{Silent}
 use Rattle.pipettor.specs.Address.{letter_of}
 use Rattle.pipettor.specs.Byte.{Exchange, byte_of}
 use Rattle.frames.specs.Frame.{added_of, exchange_of, Dialogue, given_of, ToUs, Unheeded, Others}
@@ -24,7 +23,7 @@ last s [] = s
 last s (t ∷ l) = last t l
 
 abbrev pub seen_of : Dialogue → Turn Exchange
-seen_of g = record { next = record { device = g.controller.device; said = last Silent g.said; buffer = g.buffer }; events = g.events }
+seen_of g = record { next = record { device = g.controller.device; said = last (Ok None) g.said; buffer = g.buffer }; events = g.events }
 
 -- of a frame to us with these data, sent so
 abbrev pub frame_seen : Form → Controller → List ℕ → List ℕ → Turn Exchange
@@ -107,7 +106,7 @@ pub record Exchanges (form : Form) (p : Program) (a : Making) (calls frame : Lis
   pub events : history a (calls ++ frame) ≡ history a calls ++ e.events
   pub back : List Answered
   pub answered : answered_by p (calls ++ frame) (p.fresh a) ≡ answers a calls ++ back
-  pub said : spoken back ≡ replicate (length (front form (letter_of a.address) ds)) Silent ++ (e.next.said ∷ [])
+  pub said : spoken back ≡ replicate (length (front form (letter_of a.address) ds)) (Ok None) ++ (e.next.said ∷ [])
   pub buffer : lent_last buf back ≡ e.next.buffer
 
 abbrev pub ExchangesFrame : Form → Program → Making → List Call → List ℕ → List ℕ → Type 0

@@ -1,6 +1,6 @@
 -- What has been received of a frame after any calls, by the words of 01 and 02 alone: without the receiver, its limit of 320 data bytes, or the frame it keeps.
 -- And what one more byte then does, whatever ticks, runs, stops and buffers came between the bytes of a frame.
-use Rattle.std.specs.Prelude.{ℕ, ◌≤◌, ◌≡◌, Bool, true, false, ◌&&◌, List, [], ◌∷◌, ◌++◌, ltb, eqb, length, if◌then◌else◌}
+use Rattle.std.specs.Prelude.{ℕ, ◌≤◌, ◌≡◌, Bool, true, false, ◌&&◌, List, [], ◌∷◌, ◌++◌, ltb, eqb, length, if◌then◌else◌, None, Ok}
 use Rattle.basics.specs.Exactly.{Exactly}
 use Rattle.line.specs.declared.Framing.{Framing}
 use Rattle.line.specs.declared.Framing.TheVariants as F
@@ -10,7 +10,6 @@ use Rattle.line.specs.Oem.{stx, etx, sequenced}
 use Rattle.line.specs.Wire.{Form, oem, formed, front, last_byte, Sendable}
 use Rattle.motion.specs.Events.{Turn, quiet}
 use Rattle.pipettor.specs.declared.Controller.{Controller}
-use Rattle.pipettor.specs.declared.Said.TheVariants.{Silent}
 use Rattle.pipettor.specs.Address.{letter_of}
 use Rattle.pipettor.specs.Byte.{Exchange, byte_of}
 use Rattle.frames.specs.Frame.{exchange_of}
@@ -149,7 +148,7 @@ byte_seen k b buf =
 
 -- "All of these are silent": nothing is said, written, done or added to the history
 abbrev pub unheeded : Controller → List ℕ → Turn Exchange
-unheeded k buf = quiet (record { device = k.device; said = Silent; buffer = buf })
+unheeded k buf = quiet (record { device = k.device; said = Ok None; buffer = buf })
 
 -- a byte that ends a frame to us with these data; and one that ends none, of noise or of a frame to another address ("Any other address: silent")
 abbrev pub EndsFrame : Making → List Call → ℕ → List ℕ → Type 0

@@ -1,6 +1,7 @@
 -- 02, W-204: what a rack may rely on whose OEM line is noisy, and what it may not. Of the receiver first, and then of the controller.
-use Rattle.std.specs.Prelude.{ℕ, ◌≤◌, ◌≡◌, true, false, List, [], ◌∷◌, ◌++◌, map, length, take, drop, replicate}
+use Rattle.std.specs.Prelude.{ℕ, ◌≤◌, ◌≡◌, true, false, List, [], ◌∷◌, ◌++◌, map, length, take, drop, replicate, Err, None, Ok, Some}
 use Prim.Native.String.{String}
+use Rattle.pipettor.specs.Said.{Said, s1}
 use Rattle.basics.specs.Bytes.{chars}
 use Rattle.line.specs.declared.Framing.TheVariants.{Oem}
 use Rattle.line.specs.Bytes.{printable}
@@ -8,8 +9,6 @@ use Rattle.line.specs.Oem.{stx, etx}
 use Rattle.line.specs.Wire.{fresh_line, hear_of, Received, feed, frames_of, oem, front, last_byte, framed, sum_due, begun, Sendable}
 use Rattle.pipettor.specs.declared.address.Address.{Address}
 use Rattle.pipettor.specs.declared.address.Address.TheVariants.{One}
-use Rattle.pipettor.specs.declared.Said.{Said}
-use Rattle.pipettor.specs.declared.Said.TheVariants.{Silent, Answer, S1}
 use Rattle.pipettor.specs.declared.Controller.{Controller}
 use Rattle.demands.specs.Calls.{Making, Lent, lent, Call, byte, listen, tick, stop, advance, run, Answered, said, taken, told, used, nothing, call_of, after_of, after, answers}
 use Rattle.demands.specs.InHand.{awaits_sum, in_hand, byte_seen, unheeded}
@@ -84,9 +83,9 @@ abbrev pub given : List ℕ → List Call
 given bytes = map (λ (b : ℕ). byte b (lent (replicate 32 0))) bytes
 
 abbrev pub told_by : Said → Lent → List (List ℕ) → List (List ℕ)
-told_by Silent l later = later
-told_by (Answer n) l later = take n l.buffer ∷ later
-told_by S1 l later = later
+told_by (Ok None) l later = later
+told_by (Ok (Some n)) l later = take n l.buffer ∷ later
+told_by (Err _) l later = later
 
 abbrev pub told_by_all : List Answered → List (List ℕ)
 told_by_all [] = []

@@ -1,9 +1,9 @@
 -- The contracts of the controller's methods, as `pipettor/src/lib.rt` states them (`proofs/Contracts` shows that they are the same), and what a program makes of calls that meets them.
-use Rattle.std.specs.Prelude.{ℕ, ◌≡◌, Bool, List, [], ◌∷◌}
+use Rattle.std.specs.Prelude.{ℕ, ◌≡◌, Bool, List, [], ◌∷◌, Result}
+use Rattle.pipettor.specs.declared.address.S2.{S2}
 use Rattle.line.specs.declared.Framing.{Framing}
 use Rattle.motion.specs.declared.Sense.{Sense}
 use Rattle.pipettor.specs.declared.address.Address.{Address}
-use Rattle.pipettor.specs.declared.address.Given.{Given}
 use Rattle.pipettor.specs.declared.Controller.{Controller}
 use Rattle.pipettor.specs.declared.Reply.{Reply}
 use Rattle.pipettor.specs.declared.Listened.{Listened}
@@ -20,7 +20,7 @@ use Rattle.demands.specs.Calls.{Making, Lent, Call, byte, listen, tick, stop, ad
 
 -- what each method's `ensures` says of its result, and of the answer buffer afterwards; the one `requires` of byte, tick, advance and run is `Valid`
 -- an address of a number, or S2
-abbrev pub GivenEnsures : ℕ → Given → Type 0
+abbrev pub GivenEnsures : ℕ → Result Address S2 → Type 0
 GivenEnsures n r = r ≡ address_of n
 
 abbrev pub FreshEnsures : Framing → Address → Controller → Type 0
@@ -60,7 +60,7 @@ pub record Spoken : Type 0 where
 pub record Program : Type 1 where
   pub Holds : Controller → Type 0
   pub Takes : Call → Type 0
-  pub given : ℕ → Given
+  pub given : ℕ → Result Address S2
   pub fresh : Making → Controller
   pub byte : Controller → ℕ → Lent → Spoken
   pub listen : Controller → List ℕ → Listened

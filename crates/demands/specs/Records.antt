@@ -1,5 +1,5 @@
 -- 01, demand 3: what starts the history of the exact position, what adds to it, and what adds nothing, call by call.
-use Rattle.std.specs.Prelude.{ℕ, ◌*◌, ◌≤◌, ◌≡◌, Bool, true, false, List, [], ◌∷◌}
+use Rattle.std.specs.Prelude.{ℕ, ◌*◌, ◌≤◌, ◌≡◌, Bool, true, false, List, [], ◌∷◌, Some}
 use Rattle.settings.specs.declared.Volume.{Volume}
 use Rattle.settings.specs.Units.{millionths_of}
 use Rattle.command.specs.declared.refusal.Refusal.{Refusal}
@@ -11,10 +11,8 @@ use Rattle.text.specs.declared.Control.TheVariants.{Stop, Reset}
 use Rattle.text.specs.declared.Data.TheVariants as D
 use Rattle.text.specs.Data.{received_of}
 use Rattle.motion.specs.declared.Sense.{Sense}
-use Rattle.level.specs.declared.Pressure.TheVariants.{Counts}
 use Rattle.motion.specs.declared.Activity.{Activity}
 use Rattle.motion.specs.declared.Activity.TheVariants.{Initialising, Moving, Delaying, Approaching, Searching, Ejecting, Between}
-use Rattle.motion.specs.declared.Target.TheVariants.{At}
 use Rattle.motion.specs.Events.{start, volume}
 use Rattle.motion.specs.Motion.{target_of}
 use Rattle.motion.specs.Detect.{felt_in, place_for, no_way_down}
@@ -38,7 +36,7 @@ pub record CarriedOut (k : Controller) (way : Way) (v : Volume) : Type 0 where
   pub initialised : k.device.core.body.initialised ≡ true
   pub flat : k.device.core.body.settings.start ≤ k.device.core.body.settings.top
   pub exact : ℕ
-  pub within : target_of way (asked k v) k.device.core.body.exact ≡ At exact
+  pub within : target_of way (asked k v) k.device.core.body.exact ≡ Some exact
 
 -- B that nothing refuses (02, W-206)
 pub record Detects (s : Sense) (k : Controller) (here : Bool) : Type 0 where
@@ -46,7 +44,7 @@ pub record Detects (s : Sense) (k : Controller) (here : Bool) : Type 0 where
   pub initialised : k.device.core.body.initialised ≡ true
   pub way : no_way_down k.device.core.body.settings.detection ≡ false
   pub z : ℕ
-  pub reading : felt_in s ≡ Counts z
+  pub reading : felt_in s ≡ Some z
 
 -- B's move to p2, or its search, is in progress
 abbrev pub detecting_by : Activity → Bool

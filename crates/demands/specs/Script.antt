@@ -1,15 +1,14 @@
 -- Scripts, as one would type them at the bench: frames with what they answer, ticks with where the plunger then is, runs with their count. Who plays them is the definition, or a program.
-use Rattle.std.specs.Prelude.{ℕ, ◌-◌, Bool, true, false, ◌&&◌, List, [], ◌∷◌, ◌++◌, map, eqb, take, drop, replicate, ℤ, pos, if◌then◌else◌}
+use Rattle.std.specs.Prelude.{ℕ, ◌-◌, Bool, true, false, ◌&&◌, List, [], ◌∷◌, ◌++◌, map, eqb, take, drop, replicate, ℤ, pos, if◌then◌else◌, Err, None, Ok, Some}
 use Prim.Native.String.{String}
+use Rattle.pipettor.specs.Said.{Said, s1}
+use Rattle.machine.specs.Used.{s3}
 use Rattle.basics.specs.Bytes.{chars}
 use Rattle.line.specs.declared.Framing.TheVariants.{Dt}
 use Rattle.line.specs.Wire.{dt, framed}
 use Rattle.motion.specs.Bodies.{sensing, nothing_sensed}
-use Rattle.machine.specs.declared.Used.TheVariants.{Ticks, S3}
 use Rattle.pipettor.specs.declared.address.Address.TheVariants.{One}
 use Rattle.pipettor.specs.declared.Controller.{Controller}
-use Rattle.pipettor.specs.declared.Said.{Said}
-use Rattle.pipettor.specs.declared.Said.TheVariants.{Silent, Answer, S1}
 use Rattle.demands.specs.Calls as Calls
 use Rattle.demands.specs.Calls.{lent, Call, byte, advance, run, Answered, said, taken, told, used, nothing}
 use Rattle.demands.specs.Promises.{Program, TakesAll, left_by, answered_by}
@@ -34,9 +33,9 @@ calls_of (n ticks_at reading reach there exact millionths) = advance n (sensing 
 
 -- status byte and data of an answer: without `/`, `0` in front and 03h, CR, LF behind
 abbrev pub data_in : Said → List ℕ → List ℕ
-data_in Silent buf = []
-data_in (Answer n) buf = take (n - 5) (drop 2 buf)
-data_in S1 buf = []
+data_in (Ok None) buf = []
+data_in (Ok (Some n)) buf = take (n - 5) (drop 2 buf)
+data_in (Err _) buf = []
 
 abbrev flag : Bool → ℕ
 flag b = if b then 1 else 0
@@ -45,8 +44,8 @@ abbrev pub data_of : Answered → List ℕ
 data_of (said s l) = data_in s l.buffer
 data_of (taken n) = n ∷ []
 data_of (told v) = flag v.eject ∷ []
-data_of (used v (Ticks n)) = n ∷ []
-data_of (used v S3) = []
+data_of (used v (Ok n)) = n ∷ []
+data_of (used v (Err _)) = []
 data_of nothing = []
 
 abbrev pub last_of : List Answered → List ℕ

@@ -1,10 +1,8 @@
 -- 02, W-206: a search of the controller, from the tick that begins it, with any bytes between its ticks.
-use Rattle.std.specs.Prelude.{ℕ, ◌+◌, ◌*◌, max, ◌≤◌, ◌<◌, ◌≡◌, List, [], ◌∷◌, length, drop}
+use Rattle.std.specs.Prelude.{ℕ, ◌+◌, ◌*◌, max, ◌≤◌, ◌<◌, ◌≡◌, List, [], ◌∷◌, length, drop, Ok, Option}
 use Rattle.basics.specs.Exactly.{Exactly}
 use Rattle.settings.specs.declared.Detection.{Detection}
 use Rattle.settings.specs.Units.{ticks_for}
-use Rattle.command.specs.declared.refusal.Verdict.TheVariants.{Fine}
-use Rattle.level.specs.declared.Pressure.{Pressure}
 use Rattle.level.specs.declared.Search.{Search}
 use Rattle.level.specs.declared.Finding.TheVariants.{On}
 use Rattle.level.specs.Level as Level
@@ -37,18 +35,18 @@ abbrev pub set_for : Controller → Detection
 set_for k = k.device.core.body.settings.detection
 
 -- a controller of making and calls that has been searching since it began at a place, with z for the zero; the readings of its ticks since, the last one first. Any bytes may have come between the ticks, as long as it went on searching
-pub data Seeking (d : Detection) (from z : ℕ) : List Pressure → Controller → Type 0 where
+pub data Seeking (d : Detection) (from z : ℕ) : List (Option ℕ) → Controller → Type 0 where
   begins : (a : Making) (calls : List Call) → Searches (after a calls) (Level.begun from z) → set_for (after a calls) ≡ d → Seeking d from z [] (after a calls)
-  a_tick : (s : Sense) (ps : List Pressure) (k : Controller) (f : Search) → Seeking d from z ps k → Searches (ticked s k) f → Seeking d from z (felt_in s ∷ ps) (ticked s k)
-  a_byte : (b : ℕ) (buf : List ℕ) (ps : List Pressure) (k : Controller) (f : Search) → Seeking d from z ps k → Searches (told b buf k) f → Seeking d from z ps (told b buf k)
+  a_tick : (s : Sense) (ps : List (Option ℕ)) (k : Controller) (f : Search) → Seeking d from z ps k → Searches (ticked s k) f → Seeking d from z (felt_in s ∷ ps) (ticked s k)
+  a_byte : (b : ℕ) (buf : List ℕ) (ps : List (Option ℕ)) (k : Controller) (f : Search) → Seeking d from z ps k → Searches (told b buf k) f → Seeking d from z ps (told b buf k)
 
 -- a tick of a search that ends it without an error: the liquid is found
 pub record Finds (s : Sense) (k : Controller) : Type 0 where
-  pub fine : (ticked_of s k).next.news.failed ≡ Fine
+  pub fine : (ticked_of s k).next.news.failed ≡ Ok tt
   pub over : (f : Search) → Searches (ticked s k) f → ⊥
 
 -- named for the class
-pub record Sought (d : Detection) (from z : ℕ) (ps : List Pressure) (k : Controller) : Type 0 where
+pub record Sought (d : Detection) (from z : ℕ) (ps : List (Option ℕ)) (k : Controller) : Type 0 where
   pub search : Search
   pub searches : Searches k search
   pub a_tick_for_each_reading : search.ticks ≡ length ps
@@ -78,4 +76,4 @@ pub record EverySearch : Type 0 where
   pub a_search_begins_at_the_plunger :
       (s : Sense) (k : Controller) (f : Search) → ((g : Search) → Searches k g → ⊥) → Searches (ticked s k) f → f ≡ Level.begun (ticked s k).device.core.body.plunger f.zero
   pub no_byte_begins_one : (b : ℕ) (buf : List ℕ) (k : Controller) (f : Search) → Searches (told b buf k) f → Searches k f
-  pub every_search : (d : Detection) (from z : ℕ) (ps : List Pressure) (k : Controller) → Seeking d from z ps k → Sought d from z ps k
+  pub every_search : (d : Detection) (from z : ℕ) (ps : List (Option ℕ)) (k : Controller) → Seeking d from z ps k → Sought d from z ps k

@@ -1,11 +1,10 @@
 -- 01, "Numbers that come back" and the forms of answers: what each case of an enum that a call hands back is on paper. (Of a refused string or control it is `refusal_number`, of any data `number_for`.)
-use Rattle.std.specs.Prelude.{ℕ, ◌-◌}
-use Rattle.machine.specs.declared.Used.{Used}
-use Rattle.machine.specs.declared.Used.TheVariants.{Ticks, S3}
-use Rattle.pipettor.specs.declared.address.Given.{Given}
-use Rattle.pipettor.specs.declared.address.Given.TheVariants.{Is, S2}
-use Rattle.pipettor.specs.declared.Said.{Said}
-use Rattle.pipettor.specs.declared.Said.TheVariants.{Silent, Answer, S1}
+use Rattle.std.specs.Prelude.{ℕ, ◌-◌, Err, None, Ok, Result, Some}
+use Rattle.pipettor.specs.declared.address.S2.{S2}
+use Rattle.pipettor.specs.declared.address.Address.{Address}
+use Rattle.pipettor.specs.Said.{Said, s1, s2}
+use Rattle.machine.specs.declared.S3.{S3}
+use Rattle.machine.specs.Used.{s3}
 use Rattle.pipettor.specs.Address.{letter_of}
 
 -- silence; a number; or the refusal S with its number
@@ -16,16 +15,16 @@ pub data Handed : Type 0 where
 
 -- of a byte: an answer of so many bytes
 abbrev pub said_is : Said → Handed
-said_is Silent = silence
-said_is (Answer n) = number n
-said_is S1 = S 1
+said_is (Ok None) = silence
+said_is (Ok (Some n)) = number n
+said_is (Err _) = S 1
 
 -- of an address asked for: 1 to 9
-abbrev pub given_is : Given → Handed
-given_is (Is a) = number (letter_of a - 48)
-given_is S2 = S 2
+abbrev pub given_is : Result Address S2 → Handed
+given_is (Ok a) = number (letter_of a - 48)
+given_is (Err _) = S 2
 
 -- of a run: the ticks it used
-abbrev pub used_is : Used → Handed
-used_is (Ticks n) = number n
-used_is S3 = S 3
+abbrev pub used_is : Result ℕ S3 → Handed
+used_is (Ok n) = number n
+used_is (Err _) = S 3

@@ -8,7 +8,7 @@ use borrow.Author.Tests.{leb-true, le-leb, eq-eqb, ne_eqb, eqb-true, eqb-false}
 use lib.Dec.{leb, eqb}
 use lib.ListN.{length, drop}
 use lib.Seq.{drop_at}
-use Rattle.std.specs.Prelude.{if◌then◌else◌}
+use Rattle.std.specs.Prelude.{if◌then◌else◌, None, Option, Some}
 use Rattle.basics.specs.Bytes.{chars, zero_digit, digit, every, value_of}
 use Rattle.basics.specs.Exactly.{Exactly}
 use Rattle.basics.proofs.Choice.{by}
@@ -30,8 +30,6 @@ use Rattle.desk.specs.declared.Word.{Word}
 use Rattle.desk.specs.declared.Word.TheVariants as W
 use Rattle.desk.specs.declared.Asked.{Asked}
 use Rattle.desk.specs.declared.Asked.TheVariants as A
-use Rattle.desk.specs.declared.Count.{Count}
-use Rattle.desk.specs.declared.Count.TheVariants.{Is, Not}
 use Rattle.desk.specs.Counts.{whole_of, count_of}
 use Rattle.desk.specs.Hex.{paired, bytes_in, hex_of}
 use Rattle.desk.specs.Desk.{spelled, begins, sense_word, number_word, word_of, knows, least_of, most_of, allowed, ranged, behind, form_of, asked_of}
@@ -57,23 +55,23 @@ unfolding digits
 digits_enough t e s f = rw (e, le-leb 1 (length t) (omega arith), le-leb (length t) 6 f)
 
 -- a number, or none
-data Counted (ds : List ℕ) : Count → Type 0 where
-  count : (n : ℕ) → Counts ds n → Counted ds (Is n)
-  none : Counted ds Not
+data Counted (ds : List ℕ) : Option ℕ → Type 0 where
+  count : (n : ℕ) → Counts ds n → Counted ds (Some n)
+  none : Counted ds None
 
-whole_counted : (read n : ℕ) → whole_of (followed_of read n []) ≡ Is n
+whole_counted : (read n : ℕ) → whole_of (followed_of read n []) ≡ Some n
 unfolding whole_of followed_of
 whole_counted read n = let e : n * 1000 / 1000 ≡ n = omega arith in rw e
 
-wrong_counted : (read : ℕ) → whole_of (N.Wrong read) ≡ Not
+wrong_counted : (read : ℕ) → whole_of (N.Wrong read) ≡ None
 unfolding whole_of
 wrong_counted read = refl
 
-pointed : (read n b : ℕ) (u : List ℕ) → whole_of (followed_of read n (b ∷ u)) ≡ Not
+pointed : (read n b : ℕ) (u : List ℕ) → whole_of (followed_of read n (b ∷ u)) ≡ None
 unfolding whole_of followed_of decimals_of
 pointed read n b u =
-    by (λ (x : Number). whole_of x ≡ Not) (eqb b 46)
-    (λ e. by (λ (x : Number). whole_of x ≡ Not) (digits 1 3 u) (λ d. rw (ne_eqb (length u) 0 (λ z. omega (arith, (some_digits 1 3 u d).0)))) (λ d. refl))
+    by (λ (x : Number). whole_of x ≡ None) (eqb b 46)
+    (λ e. by (λ (x : Number). whole_of x ≡ None) (digits 1 3 u) (λ d. rw (ne_eqb (length u) 0 (λ z. omega (arith, (some_digits 1 3 u d).0)))) (λ d. refl))
     (λ e. refl)
 
 zero_counts : Counts (zero_digit ∷ []) 0
@@ -85,11 +83,11 @@ unfolding count_of number_of
 counted [] = none
 counted (d ∷ ds) = go (eqb d zero_digit) refl (digits 1 6 (run Digit (d ∷ ds))) refl (rest Digit (d ∷ ds)) refl
   where
-    zero : (x : Bool) → eqb (length ds) 0 ≡ x → eqb d zero_digit ≡ true → Counted (d ∷ ds) (if x then Is 0 else Not)
+    zero : (x : Bool) → eqb (length ds) 0 ≡ x → eqb d zero_digit ≡ true → Counted (d ∷ ds) (if x then Some 0 else None)
     zero true l e = rw (eqb-true d zero_digit e, empty ds (eqb-true (length ds) 0 l)) (count 0 zero_counts)
     zero false l e = none
 
-    last : (eqb d zero_digit ≡ false) → digits 1 6 (run Digit (d ∷ ds)) ≡ true → rest Digit (d ∷ ds) ≡ [] → Counted (d ∷ ds) (Is (value_of (run Digit (d ∷ ds))))
+    last : (eqb d zero_digit ≡ false) → digits 1 6 (run Digit (d ∷ ds)) ≡ true → rest Digit (d ∷ ds) ≡ [] → Counted (d ∷ ds) (Some (value_of (run Digit (d ∷ ds))))
     last e y r =
         let w : run Digit (d ∷ ds) ≡ d ∷ ds = sym (append-nil (run Digit (d ∷ ds))) ∙ rw r at (run_rest Digit (d ∷ ds)) in
         let z = some_digits 1 6 (run Digit (d ∷ ds)) y in
@@ -103,7 +101,7 @@ counted (d ∷ ds) = go (eqb d zero_digit) refl (digits 1 6 (run Digit (d ∷ ds
         })
 
     go : (x : Bool) → eqb d zero_digit ≡ x → (y : Bool) → digits 1 6 (run Digit (d ∷ ds)) ≡ y → (r : List ℕ) → rest Digit (d ∷ ds) ≡ r →
-        Counted (d ∷ ds) (if x then (if eqb (length ds) 0 then Is 0 else Not) else whole_of (if y then followed_of (read_in (d ∷ ds)) (value_of (run Digit (d ∷ ds))) r else N.Wrong (read_in (d ∷ ds))))
+        Counted (d ∷ ds) (if x then (if eqb (length ds) 0 then Some 0 else None) else whole_of (if y then followed_of (read_in (d ∷ ds)) (value_of (run Digit (d ∷ ds))) r else N.Wrong (read_in (d ∷ ds))))
     go true e y q r p = zero (eqb (length ds) 0) refl e
     go false e false q r p = rw (wrong_counted (read_in (d ∷ ds))) none
     go false e true q [] p = rw (whole_counted (read_in (d ∷ ds)) (value_of (run Digit (d ∷ ds)))) (last e q p)
@@ -119,16 +117,16 @@ alone : (d : ℕ) (ds : List ℕ) (n : ℕ) → Counts (d ∷ ds) n → length d
 unfolding value_of
 alone d ds n c h z = sym c.number ∙ rw (z, empty ds h)
 
-counts : (ds : List ℕ) (n : ℕ) → Counts ds n → count_of ds ≡ Is n
+counts : (ds : List ℕ) (n : ℕ) → Counts ds n → count_of ds ≡ Some n
 unfolding count_of number_of
 counts [] n c = absurd (omega (arith, c.some))
 counts (d ∷ ds) n c = go (eqb d zero_digit) refl
   where
-    go : (x : Bool) → eqb d zero_digit ≡ x → (if x then (if eqb (length ds) 0 then Is 0 else Not) else whole_of (number_of (d ∷ ds))) ≡ Is n
+    go : (x : Bool) → eqb d zero_digit ≡ x → (if x then (if eqb (length ds) 0 then Some 0 else None) else whole_of (number_of (d ∷ ds))) ≡ Some n
     go true e =
         let z = eqb-true d zero_digit e in
         let h : length ds ≡ 0 = let one = c.no_leading_zero z in omega arith in
-        rw (eq-eqb (length ds) 0 h) (ap Is (sym (alone d ds n c h z)))
+        rw (eq-eqb (length ds) 0 h) (ap Some (sym (alone d ds n c h z)))
     go false e =
         let w = run_all Digit (d ∷ ds) c.digits_only in
         rw (w, digits_enough (d ∷ ds) c.digits_only c.some c.few, rest_none (d ∷ ds) c.digits_only, whole_counted (read_in (d ∷ ds)) (value_of (d ∷ ds)), c.number)
@@ -142,7 +140,7 @@ Formed desk t A.Raw = Raws desk t
 Formed desk t A.Wrong = Unit {0}
 
 module _ (desk : Desk) (t : List ℕ) where
-  numbered : (q : Quantity) (ds : List ℕ) → knows desk (W.Number q) ≡ true → t ≡ spelled (W.Number q) ++ ds → Clean t → (c : Count) → Counted ds c → Formed desk t (ranged q c)
+  numbered : (q : Quantity) (ds : List ℕ) → knows desk (W.Number q) ≡ true → t ≡ spelled (W.Number q) ++ ds → Clean t → (c : Option ℕ) → Counted ds c → Formed desk t (ranged q c)
   unfolding ranged allowed
   numbered q ds k h clean c (count n cs) =
       by (Formed desk t) (allowed q n)

@@ -1,5 +1,5 @@
 -- What a line asks: 01, "The bench program", and the training rig, which takes those lines and more. What is printed of an answer, and where a line ends.
-use Rattle.std.specs.Prelude.{ℕ, ◌+◌, ◌-◌, ◌≤◌, ◌≡◌, Bool, true, false, ◌&&◌, List, [], ◌∷◌, leb, eqb, length, take, drop, if◌then◌else◌}
+use Rattle.std.specs.Prelude.{ℕ, ◌+◌, ◌-◌, ◌≤◌, ◌≡◌, Bool, true, false, ◌&&◌, List, [], ◌∷◌, leb, eqb, length, take, drop, if◌then◌else◌, None, Option, Some}
 use Rattle.basics.specs.Bytes.{chars, every}
 use Rattle.line.specs.declared.Framing.{Framing}
 use Rattle.line.specs.declared.Framing.TheVariants as F
@@ -12,8 +12,6 @@ use Rattle.desk.specs.declared.Word.{Word}
 use Rattle.desk.specs.declared.Word.TheVariants as W
 use Rattle.desk.specs.declared.Asked.{Asked}
 use Rattle.desk.specs.declared.Asked.TheVariants.{Send, Number, Stop, Raw, Wrong}
-use Rattle.desk.specs.declared.Count.{Count}
-use Rattle.desk.specs.declared.Count.TheVariants.{Is, Not}
 use Rattle.desk.specs.Counts.{count_of}
 use Rattle.desk.specs.Hex.{paired}
 
@@ -101,9 +99,9 @@ most_of Minus = 40000
 unfoldable pub allowed : Quantity → ℕ → Bool
 allowed q n = leb (least_of q) n && leb n (most_of q)
 
-unfoldable pub ranged : Quantity → Count → Asked
-ranged q (Is n) = if allowed q n then Number q n else Wrong
-ranged q Not = Wrong
+unfoldable pub ranged : Quantity → Option ℕ → Asked
+ranged q (Some n) = if allowed q n then Number q n else Wrong
+ranged q None = Wrong
 
 -- by what stands behind the word: a text, a number, nothing, bytes
 unfoldable pub behind : Word → List ℕ → Asked

@@ -19,12 +19,6 @@ pub record Worth (b r : ℕ) : Type 0 where
 unfoldable pub digit_for : ℕ → ℕ
 digit_for n = if ltb n 10 then n + 48 else n + 55
 
--- whether a text begins with two
-unfoldable pub pair_first : List ℕ → Bool
-pair_first [] = false
-pair_first (a ∷ []) = false
-pair_first (a ∷ b ∷ t) = hex_digit a && hex_digit b
-
 -- whether a text is bytes so written, one at least
 unfoldable pub paired : List ℕ → Bool
 paired [] = false

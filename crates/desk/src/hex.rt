@@ -1,86 +1,62 @@
 // Bytes as two capital hex digits each.
-ghost use Rattle.std.specs.Prelude.{◌≡◌, ◌<◌, ◌/◌, ◌%◌, drop};
-ghost use Rattle.desk.specs.Hex.{hex_digit, Worth, digit_for, pair_first, paired as Hex·paired, byte_of};
+ghost use Rattle.std.specs.Prelude.{◌≡◌, ◌<◌, ◌/◌, ◌%◌, ◌&&◌};
+ghost use Rattle.desk.specs.Hex.{hex_digit, Worth, digit_for, paired as Hex·paired, byte_of};
 
+#[tactic(auto, unfolding(crate::specs::Hex::hex_digit))]
 fn is_hex(b: u8) -> bool
     ensures { result ≡ hex_digit b }
 {
-    if basics::is_digit(b) {
-        return true;
-    }
-    if b < b'A' {
-        return false;
-    }
-    b <= b'F'
+    basics::is_digit(b) || (b'A' <= b && b <= b'F')
 }
 
-// Whether two hex digits stand at a place of a text.
-fn pair_at(t: &[u8], at: usize) -> bool
-    ensures { result ≡ pair_first (drop at t.now) }
+fn are_hex(a: u8, b: u8) -> bool
+    ensures { result ≡ (hex_digit a && hex_digit b) }
 {
-    if t.len() <= at {
-        return false;
-    }
-    let next = at + 1;
-    if t.len() <= next {
-        return false;
-    }
-    if is_hex(t[at]) {
-        return is_hex(t[next]);
-    }
-    false
+    is_hex(a) && is_hex(b)
 }
 
 // Whether a text is bytes so written, one at least, with a space between two.
 pub fn paired(t: &[u8]) -> bool
     ensures { result ≡ Hex·paired t.now }
 {
-    let mut i = 0;
-    while i < t.len() {
-        if !pair_at(t, i) {
+    let mut rest = t;
+    while let [a, b, space, more @ ..] = rest {
+        if *space != b' ' || !are_hex(*a, *b) {
             return false;
         }
-        let next = i + 2;
-        if next == t.len() {
-            return true;
-        }
-        if t[next] != b' ' {
-            return false;
-        }
-        i = next + 1;
+        rest = more;
     }
-    false
+    match rest {
+        [a, b] => are_hex(*a, *b),
+        _ => false,
+    }
 }
 
+#[tactic(auto, unfolding(crate::specs::Hex::worth, crate::specs::Hex::hex_digit, basics::specs::Bytes::digit))]
 fn worth_of(b: u8) -> u8
     ensures { Worth b result }
 {
-    if basics::is_digit(b) {
-        return b - 48;
+    match b {
+        b'0'..=b'9' => b - 48,
+        b'A'..=b'F' => b - 55,
+        _ => 0,
     }
-    if is_hex(b) {
-        return b - 55;
-    }
-    0
 }
 
 // The byte of two digits.
+#[tactic(auto, unfolding(crate::specs::Hex::byte_of))]
 pub fn byte(a: u8, b: u8) -> u8
     ensures { result ≡ byte_of a b }
 {
-    let first = worth_of(a);
-    let second = worth_of(b);
-    16 * first + second
+    16 * worth_of(a) + worth_of(b)
 }
 
+#[tactic(auto, unfolding(crate::specs::Hex::digit_for))]
 fn digit(n: u8) -> u8
     requires { n < 16 }
     ensures { result ≡ digit_for n }
 {
-    if n < 10 {
-        return n + 48;
-    }
-    n + 55
+    if n < 10 { n + 48 } else { n + 55 }
 }
 
 // The two digits of a byte.

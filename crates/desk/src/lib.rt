@@ -52,95 +52,68 @@ pub enum Asked {
     Wrong,
 }
 
-#[derive(Clone, Copy)]
-enum Count {
-    Is(u32),
-    Not,
-}
-
 fn all_printable(t: &[u8]) -> bool
     ensures { result ≡ every printable t.now }
 {
-    let mut i = 0;
-    while i < t.len() {
-        let b = t[i];
-        if line::printable(b) {
-            i += 1;
-        } else {
-            return false;
-        }
-    }
-    true
+    t.iter().all(|b| line::printable(*b))
 }
 
 // Whether a line begins with a word.
 fn starts(t: &[u8], word: &[u8]) -> bool
     ensures { result ≡ begins word.now t.now }
 {
-    if t.len() < word.len() {
-        return false;
-    }
-    let mut i = 0;
-    while i < word.len() {
-        if word[i] != t[i] {
-            return false;
-        }
-        i += 1;
-    }
-    true
+    t.starts_with(word)
 }
 
 // Of the words that a number follows, those for what a host senses.
+#[tactic(auto, unfolding(crate::specs::Desk::sense_word))]
 fn sense_word(t: &[u8]) -> Word
     ensures { result ≡ sense_word t.now }
 {
     if starts(t, b"tip ") {
-        return Word::Number(Quantity::Tip);
+        Word::Number(Quantity::Tip)
+    } else if starts(t, b"press -") {
+        Word::Number(Quantity::Minus)
+    } else if starts(t, b"press ") {
+        Word::Number(Quantity::Press)
+    } else {
+        Word::Other
     }
-    if starts(t, b"press -") {
-        return Word::Number(Quantity::Minus);
-    }
-    if starts(t, b"press ") {
-        return Word::Number(Quantity::Press);
-    }
-    Word::Other
 }
 
 // The words that a number follows.
+#[tactic(auto, unfolding(crate::specs::Desk::number_word))]
 fn number_word(t: &[u8]) -> Word
     ensures { result ≡ number_word t.now }
 {
     if starts(t, b"t ") {
-        return Word::Number(Quantity::Ticks);
+        Word::Number(Quantity::Ticks)
+    } else if starts(t, b"run ") {
+        Word::Number(Quantity::Run)
+    } else if starts(t, b"lend ") {
+        Word::Number(Quantity::Lend)
+    } else if starts(t, b"new ") {
+        Word::Number(Quantity::New)
+    } else if starts(t, b"oem ") {
+        Word::Number(Quantity::Oem)
+    } else {
+        sense_word(t)
     }
-    if starts(t, b"run ") {
-        return Word::Number(Quantity::Run);
-    }
-    if starts(t, b"lend ") {
-        return Word::Number(Quantity::Lend);
-    }
-    if starts(t, b"new ") {
-        return Word::Number(Quantity::New);
-    }
-    if starts(t, b"oem ") {
-        return Word::Number(Quantity::Oem);
-    }
-    sense_word(t)
 }
 
+#[tactic(auto, unfolding(crate::specs::Desk::word_of))]
 fn word_of(t: &[u8]) -> Word
     ensures { result ≡ word_of t.now }
 {
     if starts(t, b"> ") {
-        return Word::Frame;
+        Word::Frame
+    } else if starts(t, b"stop") {
+        Word::Stop
+    } else if starts(t, b"x ") {
+        Word::Raw
+    } else {
+        number_word(t)
     }
-    if starts(t, b"stop") {
-        return Word::Stop;
-    }
-    if starts(t, b"x ") {
-        return Word::Raw;
-    }
-    number_word(t)
 }
 
 impl Quantity {
@@ -149,28 +122,10 @@ impl Quantity {
     {
         match self {
             Quantity::Ticks => 2,
-            Quantity::Run => 4,
+            Quantity::Run | Quantity::New | Quantity::Oem | Quantity::Tip => 4,
             Quantity::Lend => 5,
-            Quantity::New => 4,
-            Quantity::Oem => 4,
-            Quantity::Tip => 4,
             Quantity::Press => 6,
             Quantity::Minus => 7,
-        }
-    }
-
-    fn at_the_bench(self) -> bool
-        ensures { result ≡ knows Desk.Bench (Word.Number self) }
-    {
-        match self {
-            Quantity::Ticks => true,
-            Quantity::Run => false,
-            Quantity::Lend => false,
-            Quantity::New => false,
-            Quantity::Oem => false,
-            Quantity::Tip => false,
-            Quantity::Press => false,
-            Quantity::Minus => false,
         }
     }
 
@@ -178,14 +133,8 @@ impl Quantity {
         ensures { result ≡ least_of self }
     {
         match self {
-            Quantity::Ticks => 1,
-            Quantity::Run => 0,
-            Quantity::Lend => 0,
-            Quantity::New => 0,
-            Quantity::Oem => 0,
-            Quantity::Tip => 0,
-            Quantity::Press => 0,
-            Quantity::Minus => 1,
+            Quantity::Ticks | Quantity::Minus => 1,
+            _ => 0,
         }
     }
 
@@ -194,36 +143,27 @@ impl Quantity {
     {
         match self {
             Quantity::Ticks => 60_000,
-            Quantity::Run => 999_999,
+            Quantity::Run | Quantity::New | Quantity::Oem => 999_999,
             Quantity::Lend => 64,
-            Quantity::New => 999_999,
-            Quantity::Oem => 999_999,
             Quantity::Tip => 1,
-            Quantity::Press => 40_000,
-            Quantity::Minus => 40_000,
+            Quantity::Press | Quantity::Minus => 40_000,
         }
     }
 
+    #[tactic(auto, unfolding(crate::specs::Desk::allowed))]
     fn allows(self, n: u32) -> bool
         ensures { result ≡ allowed self n }
     {
-        if n < self.least() {
-            return false;
-        }
-        n <= self.most()
+        self.least() <= n && n <= self.most()
     }
 
-    fn asked(self, count: Count) -> Asked
+    #[tactic(auto, unfolding(crate::specs::Desk::ranged))]
+    fn asked(self, count: Option<u32>) -> Asked
         ensures { result ≡ ranged self count }
     {
         match count {
-            Count::Is(n) => {
-                if self.allows(n) {
-                    return Asked::Number(self, n);
-                }
-                Asked::Wrong
-            }
-            Count::Not => Asked::Wrong,
+            Some(n) if self.allows(n) => Asked::Number(self, n),
+            _ => Asked::Wrong,
         }
     }
 }
@@ -233,122 +173,94 @@ impl Word {
         ensures { result ≡ length (spelled self) }
     {
         match self {
-            Word::Frame => 2,
+            Word::Frame | Word::Raw => 2,
             Word::Number(q) => q.size(),
             Word::Stop => 4,
-            Word::Raw => 2,
             Word::Other => 0,
-        }
-    }
-
-    // The bench program has two forms of lines.
-    fn at_the_bench(self) -> bool
-        ensures { result ≡ knows Desk.Bench self }
-    {
-        match self {
-            Word::Frame => true,
-            Word::Number(q) => q.at_the_bench(),
-            Word::Stop => false,
-            Word::Raw => false,
-            Word::Other => false,
         }
     }
 }
 
 impl Desk {
+    // The bench program has two forms of lines.
     fn takes(self, word: Word) -> bool
         ensures { result ≡ knows self word }
     {
-        match self {
-            Desk::Bench => word.at_the_bench(),
-            Desk::Rig => true,
+        match (self, word) {
+            (Desk::Bench, Word::Frame | Word::Number(Quantity::Ticks)) => true,
+            (Desk::Bench, _) => false,
+            (Desk::Rig, _) => true,
         }
     }
 }
 
-fn whole(n: Number) -> Count
+#[tactic(auto, unfolding(crate::specs::Counts::whole_of))]
+fn whole(n: Number) -> Option<u32>
     ensures { result ≡ whole_of n }
 {
     match n {
-        Number::Absent => Count::Not,
         Number::Is {
             thousandths,
-            decimals,
-        } => {
-            if decimals != 0 {
-                return Count::Not;
-            }
-            Count::Is(thousandths / 1000)
-        }
-        Number::Wrong(_) => Count::Not,
+            decimals: 0,
+        } => Some(thousandths / 1000),
+        _ => None,
     }
 }
 
 // A number without leading zeros.
-fn counted(t: &[u8]) -> Count
+#[tactic(auto, unfolding(crate::specs::Counts::count_of))]
+fn counted(t: &[u8]) -> Option<u32>
     ensures { result ≡ count_of t.now }
 {
-    if t.len() == 0 {
-        return Count::Not;
+    match t {
+        [] => None,
+        [b'0'] => Some(0),
+        [b'0', ..] => None,
+        _ => whole(operand::one(t)),
     }
-    if t[0] != b'0' {
-        return whole(operand::one(t));
-    }
-    if t.len() == 1 {
-        return Count::Is(0);
-    }
-    Count::Not
 }
 
 // By what stands behind the word.
+#[tactic(auto, unfolding(crate::specs::Desk::behind))]
 fn ask(word: Word, t: &[u8]) -> Asked
     ensures { result ≡ behind word t.now }
 {
     match word {
         Word::Frame => Asked::Send,
         Word::Number(q) => q.asked(counted(t)),
-        Word::Stop => {
-            if t.len() == 0 {
-                return Asked::Stop;
-            }
-            Asked::Wrong
-        }
-        Word::Raw => {
-            if hex::paired(t) {
-                return Asked::Raw;
-            }
-            Asked::Wrong
-        }
-        Word::Other => Asked::Wrong,
+        Word::Stop if t.is_empty() => Asked::Stop,
+        Word::Raw if hex::paired(t) => Asked::Raw,
+        Word::Stop | Word::Raw | Word::Other => Asked::Wrong,
     }
 }
 
 // A line by its form.
+#[tactic(auto, using(crate::proofs::Words::word_within), unfolding(crate::specs::Desk::form_of))]
 fn form(desk: Desk, t: &[u8]) -> Asked
     ensures { result ≡ form_of desk t.now }
 {
-    let w = word_of(t);
-    let n = w.size();
-    if desk.takes(w) {
-        return ask(w, &t[n..]);
+    let word = word_of(t);
+    if desk.takes(word) {
+        ask(word, &t[word.size()..])
+    } else {
+        Asked::Wrong
     }
-    Asked::Wrong
 }
 
 // What a line asks.
+#[tactic(auto, unfolding(crate::specs::Desk::asked_of))]
 pub fn read(desk: Desk, t: &[u8]) -> Asked
     ensures { result ≡ asked_of desk t.now }
 {
-    if 400 < t.len() {
-        return Asked::Wrong;
+    if t.len() <= 400 && all_printable(t) {
+        form(desk, t)
+    } else {
+        Asked::Wrong
     }
-    if all_printable(t) {
-        return form(desk, t);
-    }
-    Asked::Wrong
 }
 
 // How many bytes stand behind an answer's data.
+#[tactic(auto, unfolding(crate::specs::Desk::tail_size))]
 fn tail(framing: Framing) -> usize
     ensures { result ≡ tail_size framing }
 {
@@ -359,31 +271,23 @@ fn tail(framing: Framing) -> usize
 }
 
 // What is printed of an answer of n bytes: its status byte and its data.
+#[tactic(auto, using(crate::proofs::Lines::tail_least, crate::proofs::Lines::tail_most, crate::proofs::Lines::cut_off, crate::proofs::Lines::too_short, crate::proofs::Lines::status_and_data))]
 pub fn printed(framing: Framing, n: usize, answer: &[u8]) -> &[u8]
     ensures { result.now ≡ printed_of framing n answer.now }
 {
     let tail = tail(framing);
-    if answer.len() < n {
-        return &answer[..0];
+    if answer.len() < n || n < 2 + tail {
+        return &[];
     }
-    if n < 2 + tail {
-        return &answer[..0];
-    }
-    let end = n - tail;
-    &answer[2..end]
+    &answer[2..n - tail]
 }
 
 // Where the line ends that begins at a place of a text: at its LF, or with the text. From behind the text there is nothing.
 pub fn line_end(t: &[u8], from: usize) -> usize
     ensures { LineEnd t.now from result }
 {
-    let mut i = from;
-    while i < t.len() {
-        let b = t[i];
-        if b == 10 {
-            return i;
-        }
-        i += 1;
+    match t.iter().skip(from).position(|b| *b == 10) {
+        Some(n) => from + n,
+        None => from.max(t.len()),
     }
-    i
 }

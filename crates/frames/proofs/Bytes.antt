@@ -4,13 +4,12 @@ use mathlib.Core.List.{List, [], ◌∷◌, ◌++◌, append_assoc, append-nil}
 use Prim.Native.Nat.{ℕ, ◌≤◌}
 use borrow.Author.Tests.{le-ltb, ne_eqb}
 use lib.ListN.{length, take, replicate}
+use Rattle.std.specs.Prelude.{None, Ok}
 use Rattle.line.specs.declared.Deed.{Deed}
 use Rattle.line.specs.declared.Deed.TheVariants as W
 use Rattle.line.specs.Wire.{framing_of, hear_of, keep_of, Received, hears, feed, completes, frames_of}
 use Rattle.motion.specs.Events.{quiet}
 use Rattle.pipettor.specs.declared.Controller.{Controller}
-use Rattle.pipettor.specs.declared.Said.TheVariants.{Silent}
-use Rattle.pipettor.specs.declared.acting.Got.TheVariants as G
 use Rattle.pipettor.specs.Address.{letter_of}
 use Rattle.pipettor.specs.Byte.{after, reply, got_of, squeezed_of, task_of, size_of, performed_of, outcome_of, said_of, written_of, dealt_of, heard_of, byte_of}
 use Rattle.pipettor.proofs.Bytes.{kept_length, squeezed_length}
@@ -29,7 +28,7 @@ joined g h = record { controller = h.controller; said = g.said ++ h.said; buffer
 
 -- nothing said, so many times
 abbrev pub silence : Controller → ℕ → List ℕ → Dialogue
-silence k n buf = record { controller = k; said = replicate n Silent; buffer = buf; events = [] }
+silence k n buf = record { controller = k; said = replicate n (Ok None); buffer = buf; events = [] }
 
 given_append : (k : Controller) (xs ys buf : List ℕ) → given_of k (xs ++ ys) buf ≡ (let g = given_of k xs buf in joined g (given_of g.controller ys g.buffer))
 unfolding given_of
@@ -45,11 +44,11 @@ pub given_last :
     (k m : Controller) (xs : List ℕ) (b n : ℕ) (buf : List ℕ) → given_of k xs buf ≡ silence m n buf →
     given_of k (xs ++ (b ∷ [])) buf
     ≡ (let t = byte_of m b buf in
-    record { controller = t.next.reply.controller; said = replicate n Silent ++ (t.next.reply.said ∷ []); buffer = t.next.buffer; events = t.events })
+    record { controller = t.next.reply.controller; said = replicate n (Ok None) ++ (t.next.reply.said ∷ []); buffer = t.next.buffer; events = t.events })
 unfolding given_of
 given_last k m xs b n buf e = given_append k xs (b ∷ []) buf ∙ rw (e, append-nil)
 
-got_none : (ours : ℕ) (d : Deed) (f : List ℕ) → Other ours d → got_of ours d f ≡ G.Nothing
+got_none : (ours : ℕ) (d : Deed) (f : List ℕ) → Other ours d → got_of ours d f ≡ None
 unfolding got_of
 got_none ours W.Nothing f h = refl
 got_none ours (W.Keep at) f h = refl
@@ -80,7 +79,7 @@ module _ (k : Controller) (b : ℕ) (buf : List ℕ) (long : 32 ≤ length buf) 
   pub byte_frame : length (byte_of k b buf).next.reply.controller.frame ≡ length k.frame
   byte_frame = rw byte_does (squeezed_length _ _ _ ∙ kept_length k.frame _ b)
 
-  pub byte_other : Other (letter_of k.address) (hear_of k.line b).deed → byte_of k b buf ≡ quiet (after (reply (hearing k (hears (receiver k) b)) Silent) buf)
+  pub byte_other : Other (letter_of k.address) (hear_of k.line b).deed → byte_of k b buf ≡ quiet (after (reply (hearing k (hears (receiver k) b)) (Ok None)) buf)
   unfolding dealt_of hears task_of performed_of outcome_of said_of written_of
   byte_other h =
       let f = keep_of k.frame (hear_of k.line b).deed b in

@@ -7,10 +7,10 @@ use native.Mathlib.Omega.{arith}
 use borrow.Author.Tests.{le-ltb}
 use lib.Dec.{ltb}
 use lib.ListN.{length, length-append}
+use Rattle.std.specs.Prelude.{Err, Ok, Some}
+use Rattle.command.specs.Verdict.{Verdict}
 use Rattle.basics.proofs.Choice.{by}
 use Rattle.command.specs.declared.refusal.Misread.TheVariants.{Letter, Operand}
-use Rattle.command.specs.declared.refusal.Verdict.{Verdict}
-use Rattle.command.specs.declared.refusal.Verdict.TheVariants.{Fine, Refused}
 use Rattle.command.specs.Numbers.{column_at}
 use Rattle.text.specs.declared.Data.{Data}
 use Rattle.text.specs.declared.Data.TheVariants as D
@@ -28,7 +28,6 @@ use Rattle.machine.specs.declared.Device.{Device}
 use Rattle.machine.specs.Act.{halt_of, stop_of, acted_of, act_of}
 use Rattle.machine.specs.Device.{halted_of}
 use Rattle.pipettor.specs.declared.address.Address.{Address}
-use Rattle.pipettor.specs.declared.acting.Got.TheVariants as G
 use Rattle.pipettor.specs.declared.Controller.{Controller}
 use Rattle.pipettor.specs.Controller.{stopped_of}
 use Rattle.pipettor.specs.Byte.{task_of, performed_of, dealt_of}
@@ -40,11 +39,11 @@ use Rattle.frames.proofs.Strings.{a_string_is_refused_exactly_at_its_first_wrong
 -- what is accepted, and what the buffer refuses, has no column
 no_column : (o : Order) (v : Verdict) (n : ℕ) (c : Core) → (acted_of o v n c).next.course.misread ≡ 0
 unfolding acted_of
-no_column o Fine n c = refl
-no_column o (Refused why) n c = refl
+no_column o (Ok tt) n c = refl
+no_column o (Err why) n c = refl
 
 module _ (a : Address) (d : Device) (f : Framing) (buf added : List ℕ) where
-  left : (x : Data) → (dealt_of f (G.Data x) added a d buf).next.device.core.course.misread ≡ column_after x d.core.course.misread
+  left : (x : Data) → (dealt_of f (Some x) added a d buf).next.device.core.course.misread ≡ column_after x d.core.course.misread
   unfolding dealt_of task_of performed_of act_of
   left (D.Report q) = refl
   left D.WrongReport = refl

@@ -3,6 +3,7 @@ use mathlib.Core.Path.{◌≡◌, refl, ap, ◌∙◌}
 use mathlib.Core.Bool.{true, false, false≢true}
 use mathlib.Core.List.{List, [], ◌∷◌}
 use Prim.Native.Nat.{ℕ, ◌*◌}
+use Rattle.std.specs.Prelude.{Some}
 use Rattle.basics.specs.Lay.{over}
 use Rattle.settings.specs.Limits.{usual_settings}
 use Rattle.text.specs.declared.Control.TheVariants.{Run, Stop, Again, Clear, Reset}
@@ -29,7 +30,6 @@ use Rattle.machine.specs.Device.{fresh_of}
 use Rattle.machine.specs.Act.{halt_of, stop_of, changed_of, done_of, core_error, acted_of, act_of}
 use Rattle.machine.proofs.Bodies.{NoStop, strings_R_X_and_C_leave_the_body, strings_R_X_and_C_add_nothing_to_the_history}
 use Rattle.pipettor.specs.declared.address.Address.{Address}
-use Rattle.pipettor.specs.declared.acting.Got.TheVariants as G
 use Rattle.pipettor.specs.declared.acting.Task.TheVariants as T
 use Rattle.pipettor.specs.Address.{letter_of}
 use Rattle.pipettor.specs.Byte.{action_of, string_action, task_of, performed_of, outcome_of, written_of, Exchange, dealt_of}
@@ -92,12 +92,12 @@ module _ (a : Address) (d : Device) (f : Framing) (buf : List ℕ) where
     body : e.next.device.core.body ≡ d.core.body
     events : e.events ≡ []
 
-  acted_leaves : (x : Action) (added : List ℕ) → NoStop x → (y : Data) → task_of (G.Data y) ≡ T.Act x → Untouched (dealt_of f (G.Data y) added a d buf)
+  acted_leaves : (x : Action) (added : List ℕ) → NoStop x → (y : Data) → task_of (Some y) ≡ T.Act x → Untouched (dealt_of f (Some y) added a d buf)
   unfolding dealt_of performed_of
   acted_leaves x added h y is =
       record { body = rw is (strings_R_X_and_C_leave_the_body x added d h); events = rw is (strings_R_X_and_C_add_nothing_to_the_history x added d h) }
 
-  dealt_leaves : (x : Data) (added : List ℕ) → (x ≡ D.Control Stop → ⊥) → (x ≡ D.Control Reset → ⊥) → Untouched (dealt_of f (G.Data x) added a d buf)
+  dealt_leaves : (x : Data) (added : List ℕ) → (x ≡ D.Control Stop → ⊥) → (x ≡ D.Control Reset → ⊥) → Untouched (dealt_of f (Some x) added a d buf)
   unfolding dealt_of task_of performed_of
   dealt_leaves (D.Report q) added p r = record { body = refl; events = refl }
   dealt_leaves D.WrongReport added p r = record { body = refl; events = refl }

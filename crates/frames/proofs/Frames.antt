@@ -8,6 +8,8 @@ use borrow.Author.Tests.{lt-ltb, le-ltb, ltb-true, ltb-false, eq-eqb}
 use lib.Dec.{ltb}
 use lib.ListN.{length, take, replicate}
 use lib.Seq.{take_all, take-append-le}
+use Rattle.std.specs.Prelude.{None, Ok, Some}
+use Rattle.pipettor.specs.Said.{Said}
 use Rattle.basics.specs.Bytes.{every}
 use Rattle.basics.specs.Lay.{over}
 use Rattle.basics.proofs.Choice.{by}
@@ -26,17 +28,14 @@ use Rattle.line.proofs.Framed.{whole_frame, one_frame}
 use Rattle.motion.specs.Events.{Turn}
 use Rattle.pipettor.specs.declared.address.Address.{Address}
 use Rattle.pipettor.specs.declared.address.Address.TheVariants.{One, Two, Three, Four, Five, Six, Seven, Eight, Nine}
-use Rattle.pipettor.specs.declared.acting.Got.TheVariants as G
 use Rattle.pipettor.specs.declared.Controller.{Controller}
-use Rattle.pipettor.specs.declared.Said.{Said}
-use Rattle.pipettor.specs.declared.Said.TheVariants.{Silent}
 use Rattle.pipettor.specs.Address.{letter_of}
 use Rattle.pipettor.specs.Byte.{After, fetched_of, squeezed_in, got_of, squeezed_of, size_of, Exchange, byte_of}
 use Rattle.frames.specs.Frame.{added_of, exchange_of, given_of, ToUs, Unheeded, Others}
 use Rattle.frames.proofs.Bytes.{receiver, hearing, given_last, byte_does, byte_frame, given_others}
 
 -- a text is no longer than the data that hold it
-text_fits : (t : List ℕ) (d : Data) → data_of t ≡ d → size_of (G.Data d) ≤ length t
+text_fits : (t : List ℕ) (d : Data) → data_of t ≡ d → size_of (Some d) ≤ length t
 text_fits t (D.Report q) e = omega arith
 text_fits t D.WrongReport e = omega arith
 text_fits t (D.Control c) e = omega arith
@@ -47,7 +46,7 @@ text_fits t D.TooLong e = omega arith
 -- what the frame in hand brings at the CR, and the characters that come with it
 module _ (ds f : List ℕ) (kept : take (min 320 (length ds)) f ≡ take 320 ds) where
   abbrev Brings : ℕ → Type 0
-  Brings n = (fetched_of n f ≡ G.Data (received_of ds)) × (take (size_of (fetched_of n f)) (squeezed_in n f) ≡ added_of ds)
+  Brings n = (fetched_of n f ≡ Some (received_of ds)) × (take (size_of (fetched_of n f)) (squeezed_in n f) ≡ added_of ds)
 
   too_many : 320 < length ds → Brings (min 321 (length ds))
   unfolding fetched_of squeezed_in received_of added_of
@@ -134,7 +133,7 @@ module _ (form : Form) (k : Controller) (ds buf : List ℕ) (heard : Hears form 
       let silence = given_others k bytes buf long (rw w.silent tt) in
       rw (given_last k (hearing k before) bytes last (length bytes) buf silence)
       (record {
-        said = ap (λ (s : Said). replicate (length bytes) Silent ++ (s ∷ [])) (e.said ∙ ap (λ (t : Turn Exchange). t.next.said) done);
+        said = ap (λ (s : Said). replicate (length bytes) (Ok None) ++ (s ∷ [])) (e.said ∙ ap (λ (t : Turn Exchange). t.next.said) done);
         buffer = e.buffer ∙ ap (λ (t : Turn Exchange). t.next.buffer) done;
         device = e.device ∙ ap (λ (t : Turn Exchange). t.next.device) done;
         events = e.events ∙ ap (λ (t : Turn Exchange). t.events) done;

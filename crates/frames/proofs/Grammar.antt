@@ -6,7 +6,10 @@ use Prim.Native.Nat.{ℕ, zero, suc, ◌+◌, ◌≤◌}
 use native.Mathlib.Omega.{arith}
 use lib.Dec.{eqb}
 use lib.ListN.{length, length-append}
-use Rattle.std.specs.Prelude.{if◌then◌else◌}
+use Rattle.std.specs.Prelude.{if◌then◌else◌, Err, None, Ok, Option, Result, Some}
+use Rattle.settings.specs.declared.Aspect.{Aspect}
+use Rattle.command.specs.declared.Malformed.{Malformed}
+use Rattle.command.specs.declared.Malformed.TheVariants.{NoLetter, WrongOperand}
 use Rattle.basics.specs.Bytes.{every}
 use Rattle.basics.specs.Exactly.{Exactly}
 use Rattle.basics.proofs.Choice.{by}
@@ -17,20 +20,12 @@ use Rattle.operand.proofs.Runs.{run_rest, run_every, rest_begins, run_all, run_j
 use Rattle.command.specs.declared.Command.{Command}
 use Rattle.command.specs.declared.Letter.{Letter}
 use Rattle.command.specs.declared.Letter.TheVariants as L
-use Rattle.command.specs.declared.Taken.{Taken}
-use Rattle.command.specs.declared.Taken.TheVariants.{Good, Bad}
-use Rattle.command.specs.declared.Formed.{Formed}
-use Rattle.command.specs.declared.Formed.TheVariants.{Made, NoLetter, WrongOperand}
-use Rattle.command.specs.declared.Row.{Row}
-use Rattle.command.specs.declared.Row.TheVariants.{Of, Missing}
 use Rattle.operand.specs.declared.Pair.{Pair}
 use Rattle.operand.specs.Number.{pair_of}
 use Rattle.command.specs.declared.refusal.Misread.{Misread}
 use Rattle.command.specs.declared.refusal.Misread.TheVariants as M
 use Rattle.command.specs.Command.{placed, found_in}
 use Rattle.command.specs.Table.{letter_of, made, both, in_unit, volume_of, paced_of, slopes_of, compensation_of, row_of, set_by, aspect_of, command_of}
-use Rattle.text.specs.declared.Checked.{Checked}
-use Rattle.text.specs.declared.Checked.TheVariants.{Fine, Wrong}
 use Rattle.text.specs.Text.{Step, Reading, reads, wrong, then_read, verdict, read_from, read_of, check_of}
 use Rattle.frames.specs.Grammar.{is_among, letters, Ended, Operands, Commands, none, command, Apart, UpTo, Judged}
 
@@ -75,31 +70,31 @@ named_are_the_letters b =
     (one_of (eqb b 71) _ _ _ refl refl)))))))))))))))
 
 -- a letter of the table makes a command or refuses its operand text; no other does
-abbrev lettered : Formed → Bool
-lettered (Made c) = true
-lettered (WrongOperand read) = true
-lettered NoLetter = false
+abbrev lettered : Result Command Malformed → Bool
+lettered (Ok c) = true
+lettered (Err (WrongOperand read)) = true
+lettered (Err NoLetter) = false
 
-lettered_one : (read : ℕ) (f : ℕ → Command) (x : Taken) → lettered (made read f x) ≡ true
+lettered_one : (read : ℕ) (f : ℕ → Command) (x : Option ℕ) → lettered (made read f x) ≡ true
 unfolding made
-lettered_one read f (Good n) = refl
-lettered_one read f Bad = refl
+lettered_one read f (Some n) = refl
+lettered_one read f None = refl
 
-lettered_two : (read : ℕ) (f : ℕ → ℕ → Command) (x y : Taken) → lettered (both read f x y) ≡ true
+lettered_two : (read : ℕ) (f : ℕ → ℕ → Command) (x y : Option ℕ) → lettered (both read f x y) ≡ true
 unfolding both
-lettered_two read f (Good a) (Good b) = refl
-lettered_two read f (Good a) Bad = refl
-lettered_two read f Bad y = refl
+lettered_two read f (Some a) (Some b) = refl
+lettered_two read f (Some a) None = refl
+lettered_two read f None y = refl
 
-lettered_unit : (read : ℕ) (u x y : Taken) (f g : ℕ → Command) → lettered (in_unit read u (made read f x) (made read g y)) ≡ true
+lettered_unit : (read : ℕ) (u x y : Option ℕ) (f g : ℕ → Command) → lettered (in_unit read u (made read f x) (made read g y)) ≡ true
 unfolding in_unit
-lettered_unit read (Good n) x y f g = by (λ r. lettered r ≡ true) (eqb n 0) (λ _. lettered_one read f x) (λ _. lettered_one read g y)
-lettered_unit read Bad x y f g = refl
+lettered_unit read (Some n) x y f g = by (λ r. lettered r ≡ true) (eqb n 0) (λ _. lettered_one read f x) (λ _. lettered_one read g y)
+lettered_unit read None x y f g = refl
 
-lettered_row : (row : Row) (p : Pair) → lettered (set_by row p) ≡ true
+lettered_row : (row : Option Aspect) (p : Pair) → lettered (set_by row p) ≡ true
 unfolding set_by
-lettered_row (Of a) p = lettered_one _ _ _
-lettered_row Missing p = refl
+lettered_row (Some a) p = lettered_one _ _ _
+lettered_row None p = refl
 
 lettered_as_named : (l : Letter) (t : List ℕ) → lettered (command_of l t) ≡ named l
 unfolding command_of volume_of paced_of slopes_of compensation_of aspect_of
@@ -118,22 +113,22 @@ lettered_as_named L.Open (b ∷ t) = refl
 lettered_as_named L.Close t = lettered_one _ _ _
 lettered_as_named L.Other t = refl
 
-no_letter : (f : Formed) → lettered f ≡ false → f ≡ NoLetter
-no_letter (Made c) e = let z : ◌≡◌ {A = ℕ} 0 1 = cc in absurd (omega arith)
-no_letter (WrongOperand read) e = let z : ◌≡◌ {A = ℕ} 0 1 = cc in absurd (omega arith)
-no_letter NoLetter e = refl
+no_letter : (f : Result Command Malformed) → lettered f ≡ false → f ≡ Err NoLetter
+no_letter (Ok c) e = let z : ◌≡◌ {A = ℕ} 0 1 = cc in absurd (omega arith)
+no_letter (Err (WrongOperand read)) e = let z : ◌≡◌ {A = ℕ} 0 1 = cc in absurd (omega arith)
+no_letter (Err NoLetter) e = refl
 
 module _ (b : ℕ) (t : List ℕ) where
   lettered_as_listed : lettered (command_of (letter_of b) t) ≡ is_among b letters
   lettered_as_listed = lettered_as_named (letter_of b) t ∙ named_are_the_letters b
 
-  foreign_makes_nothing : is_among b letters ≡ false → command_of (letter_of b) t ≡ NoLetter
+  foreign_makes_nothing : is_among b letters ≡ false → command_of (letter_of b) t ≡ Err NoLetter
   foreign_makes_nothing h = no_letter (command_of (letter_of b) t) (lettered_as_listed ∙ h)
 
-  nothing_made_is_foreign : command_of (letter_of b) t ≡ NoLetter → is_among b letters ≡ false
+  nothing_made_is_foreign : command_of (letter_of b) t ≡ Err NoLetter → is_among b letters ≡ false
   nothing_made_is_foreign e = sym lettered_as_listed ∙ ap lettered e
 
-  pub what_makes_is_listed : (c : Command) → command_of (letter_of b) t ≡ Made c → is_among b letters ≡ true
+  pub what_makes_is_listed : (c : Command) → command_of (letter_of b) t ≡ Ok c → is_among b letters ≡ true
   what_makes_is_listed c e = sym lettered_as_listed ∙ ap lettered e
 
 -- the longest run behind a letter is its operand text
@@ -165,7 +160,7 @@ module _ (at letter : ℕ) (operand after : List ℕ) (o : Operands operand afte
   one_read = rw (the_operand operand after o, past_operands (at + 1) operand after o.operands, at_a_letter (at + 1 + length operand) after o.longest)
 
 -- a command in front of what is wrong
-skipped : (at letter : ℕ) (operand u : List ℕ) (c : Command) → command_of (letter_of letter) operand ≡ Made c → (r : Reading) (m : Misread) → r ≡ wrong m → then_read at (placed at (length operand) (command_of (letter_of letter) operand)) r ≡ wrong m
+skipped : (at letter : ℕ) (operand u : List ℕ) (c : Command) → command_of (letter_of letter) operand ≡ Ok c → (r : Reading) (m : Misread) → r ≡ wrong m → then_read at (placed at (length operand) (command_of (letter_of letter) operand)) r ≡ wrong m
 unfolding placed
 skipped at letter operand u c is r m e = rw (is, e)
 
@@ -210,17 +205,17 @@ unfolding read_from found_in placed
 foreign_read letter after h at = rw (foreign_makes_nothing letter (operand_text after) h)
 
 untaken_read :
-    (letter : ℕ) (operand after : List ℕ) (read : ℕ) → Operands operand after → command_of (letter_of letter) operand ≡ WrongOperand read →
+    (letter : ℕ) (operand after : List ℕ) (read : ℕ) → Operands operand after → command_of (letter_of letter) operand ≡ Err (WrongOperand read) →
     (at : ℕ) → read_from false at (letter ∷ (operand ++ after)) ≡ wrong (M.Operand (at + 1) read)
 unfolding placed
 untaken_read letter operand after read o h at = one_read at letter operand after o ∙ rw h
 
 -- what the grammar says, the reader says
-sound : (t : List ℕ) (v : Checked) → Judged t v → check_of t ≡ v
+sound : (t : List ℕ) (v : Result Unit Misread) → Judged t v → check_of t ≡ v
 unfolding check_of read_of
-sound t Fine j = ap verdict (all_read t j 0).1
-sound t (Wrong (M.Letter place)) j = ap verdict (wrong_where_said j.up_to M.Letter (foreign_read j.letter j.after j.foreign))
-sound t (Wrong (M.Operand place read)) j =
+sound t (Ok tt) j = ap verdict (all_read t j 0).1
+sound t (Err (M.Letter place)) j = ap verdict (wrong_where_said j.up_to M.Letter (foreign_read j.letter j.after j.foreign))
+sound t (Err (M.Operand place read)) j =
     ap verdict
     (wrong_where_said j.up_to (λ n. M.Operand (n + 1) read) (untaken_read j.letter j.operand j.after read j.extent j.untaken) ∙
     ap (λ n. wrong (M.Operand n read)) (sym j.here))
@@ -235,7 +230,7 @@ ended_part [] u h a = h
 ended_part (b ∷ t) u h a = a
 
 -- one command more in front
-module _ (letter : ℕ) (operand after : List ℕ) (c : Command) (o : Operands operand after) (m : command_of (letter_of letter) operand ≡ Made c) where
+module _ (letter : ℕ) (operand after : List ℕ) (c : Command) (o : Operands operand after) (m : command_of (letter_of letter) operand ≡ Ok c) where
   abbrev longer : List ℕ
   longer = letter ∷ (operand ++ after)
 
@@ -250,10 +245,10 @@ module _ (letter : ℕ) (operand after : List ℕ) (c : Command) (o : Operands o
         apart = ended_part up.before u front up.apart;
       }
 
-  more : (v : Checked) → Judged after v → (w : Checked) × Judged longer w
-  more Fine j = (Fine, command letter operand after c o m j)
-  more (Wrong (M.Letter place)) j = (
-    Wrong (M.Letter (place + 1 + length operand)),
+  more : (v : Result Unit Misread) → Judged after v → (w : Result Unit Misread) × Judged longer w
+  more (Ok tt) j = ((Ok tt), command letter operand after c o m j)
+  more (Err (M.Letter place)) j = (
+    Err (M.Letter (place + 1 + length operand)),
     record {
       letter = j.letter;
       after = j.after;
@@ -261,8 +256,8 @@ module _ (letter : ℕ) (operand after : List ℕ) (c : Command) (o : Operands o
       foreign = j.foreign;
     },
   )
-  more (Wrong (M.Operand place read)) j = (
-    Wrong (M.Operand (j.at + 1 + length operand + 1) read),
+  more (Err (M.Operand place read)) j = (
+    Err (M.Operand (j.at + 1 + length operand + 1) read),
     record {
       letter = j.letter;
       operand = j.operand;
@@ -289,10 +284,10 @@ module _ (b : ℕ) (t : List ℕ) where
   its_operands : Operands its others
   its_operands = record { operands = run_every Class.Operand t; longest = rest_ended others refl }
 
-  first_of : (f : Formed) → command_of (letter_of b) its ≡ f → ((v : Checked) × Judged others v) → (v : Checked) × Judged (b ∷ (its ++ others)) v
-  first_of (Made c) e later = more b its others c its_operands e later.0 later.1
-  first_of NoLetter e later = (
-    Wrong (M.Letter 0),
+  first_of : (f : Result Command Malformed) → command_of (letter_of b) its ≡ f → ((v : Result Unit Misread) × Judged others v) → (v : Result Unit Misread) × Judged (b ∷ (its ++ others)) v
+  first_of (Ok c) e later = more b its others c its_operands e later.0 later.1
+  first_of (Err NoLetter) e later = (
+    Err (M.Letter 0),
     record {
       letter = b;
       after = its ++ others;
@@ -300,8 +295,8 @@ module _ (b : ℕ) (t : List ℕ) where
       foreign = nothing_made_is_foreign b its e;
     },
   )
-  first_of (WrongOperand read) e later = (
-    Wrong (M.Operand 1 read),
+  first_of (Err (WrongOperand read)) e later = (
+    Err (M.Operand 1 read),
     record {
       letter = b;
       operand = its;
@@ -315,21 +310,21 @@ module _ (b : ℕ) (t : List ℕ) where
   )
 
 -- n bounds the characters
-judged : (n : ℕ) → (t : List ℕ) → length t ≤ n → (v : Checked) × Judged t v
+judged : (n : ℕ) → (t : List ℕ) → length t ≤ n → (v : Result Unit Misread) × Judged t v
 judged zero = λ t h. none_left t h
   where
-    none_left : (t : List ℕ) → length t ≤ 0 → (v : Checked) × Judged t v
-    none_left [] h = (Fine, none)
+    none_left : (t : List ℕ) → length t ≤ 0 → (v : Result Unit Misread) × Judged t v
+    none_left [] h = ((Ok tt), none)
     none_left (b ∷ t) h = absurd (omega arith)
 judged (suc n) = λ t h. some_left t h (judged n)
   where
-    some_left : (t : List ℕ) → length t ≤ suc n → ((u : List ℕ) → length u ≤ n → (v : Checked) × Judged u v) → (v : Checked) × Judged t v
-    some_left [] h fewer = (Fine, none)
+    some_left : (t : List ℕ) → length t ≤ suc n → ((u : List ℕ) → length u ≤ n → (v : Result Unit Misread) × Judged u v) → (v : Result Unit Misread) × Judged t v
+    some_left [] h fewer = ((Ok tt), none)
     some_left (b ∷ t) h fewer =
         let split = run_rest Class.Operand t in
         rw split at (first_of b t (command_of (letter_of b) (operand_text t)) refl (fewer (rest Class.Operand t) (omega (arith, simp length-append at (ap length split)))))
 
-pub the_reader_keeps_to_the_grammar : (t : List ℕ) (v : Checked) → Exactly (check_of t ≡ v) (Judged t v)
+pub the_reader_keeps_to_the_grammar : (t : List ℕ) (v : Result Unit Misread) → Exactly (check_of t ≡ v) (Judged t v)
 the_reader_keeps_to_the_grammar t v =
     record {
       only = λ e. let (w, j) = judged (length t) t (omega arith) in rw (sym (sound t w j) ∙ e) at j;

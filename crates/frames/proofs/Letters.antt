@@ -5,6 +5,7 @@ use mathlib.Core.List.{List, [], ◌∷◌, ◌++◌}
 use Prim.Native.Nat.{ℕ}
 use borrow.Author.Tests.{ne_eqb}
 use lib.Dec.{eqb}
+use Rattle.std.specs.Prelude.{Ok}
 use Rattle.basics.specs.Bytes.{every}
 use Rattle.basics.proofs.Digits.{and_both}
 use Rattle.operand.specs.declared.Class.TheVariants.{Operand}
@@ -13,7 +14,6 @@ use Rattle.command.specs.declared.refusal.Misread.TheVariants as M
 use Rattle.command.specs.declared.Letter.TheVariants as L
 use Rattle.command.specs.Command.{placed, found_in}
 use Rattle.command.specs.Table.{letter_of, command_of}
-use Rattle.text.specs.declared.Checked.TheVariants.{Fine}
 use Rattle.text.specs.declared.Data.TheVariants as D
 use Rattle.text.specs.Text.{read_from, read_of, check_of}
 use Rattle.text.specs.Data.{body, string_of, control_of, data_of}
@@ -49,7 +49,7 @@ in_the_table t (command letter operand rest c o m more) =
 pub an_accepted_string_holds_letters_of_the_table_and_operands_only : (t : List ℕ) (n : ℕ) (run : Bool) → data_of t ≡ D.Text n run → every in_table (body t) ≡ true
 an_accepted_string_holds_letters_of_the_table_and_operands_only t n run e =
     let text = a_text_stands_in_front n run t e in
-    in_the_table (body t) ((the_reader_keeps_to_the_grammar (body t) Fine).only (rw text.front at text.good))
+    in_the_table (body t) ((the_reader_keeps_to_the_grammar (body t) (Ok tt)).only (rw text.front at text.good))
 
 -- a letter outside the table in front of anything: 2, at the first place
 another_letter_first_is_2 : (b c : ℕ) (t : List ℕ) → letter_of b ≡ L.Other → string_of (b ∷ c ∷ t) ≡ D.Wrong (M.Letter 0)

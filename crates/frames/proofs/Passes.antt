@@ -5,6 +5,7 @@ use Prim.Native.Nat.{ℕ, zero, suc, ◌+◌, ◌-◌, ◌≤◌, ◌<◌, max}
 use native.Mathlib.Omega.{arith}
 use borrow.Author.Tests.{lt-ltb, le-ltb, ne_eqb}
 use lib.ListN.{length}
+use Rattle.std.specs.Prelude.{None, Ok, Some}
 use Rattle.text.specs.Text.{Step}
 use Rattle.text.specs.Loops.{closes, part_of, Nest, done, one, loop, spell, Proper, depth}
 use Rattle.text.specs.Inside.{MayRun, start_of}
@@ -12,13 +13,11 @@ use Rattle.text.proofs.Tiles.{Tiled, an_accepted_text_is_tiled}
 use Rattle.buffer.specs.declared.course.Mark.{Mark}
 use Rattle.buffer.specs.declared.course.Loops.{Loops}
 use Rattle.buffer.specs.declared.course.Course.{Course}
-use Rattle.buffer.specs.declared.course.Went.TheVariants.{On}
-use Rattle.buffer.specs.declared.course.Pass.TheVariants.{Again, Over}
 use Rattle.buffer.specs.Course.{mark, loops_of, no_loops, pushed, popped, pass_of, reached, opened_of, closed_by, closed_of}
 use Rattle.frames.specs.Passes.{passes, unrolled, Ending, Moves, ahead, enters, returns, leaves, went_by, Taken, none, step}
 
 -- where the definitions of the run say a command leads, there it leads
-pub a_run_moves_so : (s : Step) (c : Course) (at : ℕ) (m : Loops) → Moves s c.loops at m → went_by (part_of s.command) s.next c ≡ On (reached at m c)
+pub a_run_moves_so : (s : Step) (c : Course) (at : ℕ) (m : Loops) → Moves s c.loops at m → went_by (part_of s.command) s.next c ≡ Ok (reached at m c)
 unfolding opened_of closed_of closed_by
 a_run_moves_so s c at m (ahead is) = rw is
 a_run_moves_so s c at m (enters is h) = rw (is, lt-ltb c.loops.depth 4 h)
@@ -61,11 +60,11 @@ module _
     abbrev round : ℕ → Loops
     round p = pushed (mark g.next p) l
 
-    again : (p : ℕ) → p + 1 < n → pass_of n p ≡ Again (p + 1)
+    again : (p : ℕ) → p + 1 < n → pass_of n p ≡ Some (p + 1)
     unfolding pass_of
     again p h = rw (ne_eqb n 0 (λ e. omega arith), lt-ltb (p + 1) n h)
 
-    over : (p : ℕ) → p + 1 ≡ n → pass_of n p ≡ Over
+    over : (p : ℕ) → p + 1 ≡ n → pass_of n p ≡ None
     unfolding pass_of
     over p h = rw (ne_eqb n 0 (λ e. omega arith), le-ltb (p + 1) n (omega arith))
 

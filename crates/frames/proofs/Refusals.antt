@@ -7,7 +7,8 @@ use Prim.Native.Nat.{ℕ}
 use native.Mathlib.Omega.{arith}
 use lib.Dec.{eqb}
 use lib.ListN.{length}
-use Rattle.std.specs.Prelude.{if◌then◌else◌}
+use Rattle.std.specs.Prelude.{if◌then◌else◌, None, Ok, Option, Some}
+use Rattle.line.specs.declared.Report.{Report}
 use Rattle.basics.specs.Lay.{over}
 use Rattle.basics.specs.Exactly.{Exactly}
 use Rattle.command.specs.declared.refusal.Misread.{Misread}
@@ -33,11 +34,7 @@ use Rattle.machine.specs.Refusals as Buffer
 use Rattle.machine.specs.Refusals.{verdict_for, NothingToRun, run_empty, run_done, again_empty, again_stored, again_stopped, again_delaying}
 use Rattle.machine.proofs.Refusals.{nothing_to_run_is_14, busy_or_too_long_is_15, wrong_loops_are_3, no_other_refusal}
 use Rattle.pipettor.specs.declared.address.Address.{Address}
-use Rattle.reports.specs.declared.Told.{Told}
-use Rattle.reports.specs.declared.Told.TheVariants.{Says, No}
-use Rattle.pipettor.specs.declared.acting.Got.TheVariants as G
 use Rattle.pipettor.specs.declared.acting.Task.TheVariants as T
-use Rattle.pipettor.specs.declared.Said.TheVariants.{Answer}
 use Rattle.pipettor.specs.Byte.{told_of, action_of, string_action, task_of, performed_of, outcome_of, told_code, said_of, written_of, Exchange, dealt_of}
 use Rattle.frames.specs.Frame.{added_of, exchange_of}
 use Rattle.frames.proofs.Strings as Strings
@@ -46,18 +43,18 @@ use Rattle.frames.specs.Refused.{told_number, told_report, number_for, refusal_o
 
 -- an answered report carries the last error, and one that is refused 3
 module _ (f : Framing) (error : ℕ) (ready : Bool) where
-  abbrev told : Told → List ℕ
+  abbrev told : Option Report → List ℕ
   told t = Line.answer_of f (status_of ready (if eqb (told_number t) 0 then error else told_number t)) (told_report t)
 
-  told_said : (t : Told) → said_of f (told_code t error) ready ≡ Answer (length (told t))
+  told_said : (t : Option Report) → said_of f (told_code t error) ready ≡ Ok (Some (length (told t)))
   unfolding said_of
-  told_said (Says r) = refl
-  told_said No = refl
+  told_said (Some r) = refl
+  told_said None = refl
 
-  told_written : (t : Told) (buf : List ℕ) → written_of f (told_code t error) ready buf ≡ over (told t) 0 buf
+  told_written : (t : Option Report) (buf : List ℕ) → written_of f (told_code t error) ready buf ≡ over (told t) 0 buf
   unfolding written_of
-  told_written (Says r) buf = refl
-  told_written No buf = refl
+  told_written (Some r) buf = refl
+  told_written None buf = refl
 
 -- the buffer never says 2, and 14 never of a string
 never_2 : {G : Type 0} (added : List ℕ) (d : Device) (x : Action) → Buffer.number_for x added d ≡ 2 → G
@@ -91,18 +88,18 @@ no_string true s h = run_or_again A.Launch s h
 no_string false s h = run_or_again A.Store s h
 
 -- a report answers 0 or 3
-not_told : {G : Type 0} (n : ℕ) (t : Told) → told_number t ≡ n → (n ≡ 0 → ⊥) → (n ≡ 3 → ⊥) → G
-not_told n (Says r) e p q = absurd (p (sym e))
-not_told n No e p q = absurd (q (sym e))
+not_told : {G : Type 0} (n : ℕ) (t : Option Report) → told_number t ≡ n → (n ≡ 0 → ⊥) → (n ≡ 3 → ⊥) → G
+not_told n (Some r) e p q = absurd (p (sym e))
+not_told n None e p q = absurd (q (sym e))
 
-refused_3 : (t : Told) → told_number t ≡ 3 → t ≡ No
-refused_3 (Says r) e = absurd (omega arith)
-refused_3 No e = refl
+refused_3 : (t : Option Report) → told_number t ≡ 3 → t ≡ None
+refused_3 (Some r) e = absurd (omega arith)
+refused_3 None e = refl
 
 -- no other number than 01's
-known_told : (t : Told) → Known (told_number t)
-known_told (Says r) = inl refl
-known_told No = inr (inr (inl refl))
+known_told : (t : Option Report) → Known (told_number t)
+known_told (Some r) = inl refl
+known_told None = inr (inr (inl refl))
 
 known_buffer : (n : ℕ) → (n ≡ 0) ⊎ (n ≡ 3) ⊎ (n ≡ 14) ⊎ (n ≡ 15) → Known n
 known_buffer n (inl h) = inl h
@@ -115,7 +112,7 @@ module _ (added : List ℕ) (a : Address) (d : Device) where
 
   module _ (f : Framing) (buf : List ℕ) where
     abbrev does : Data → Turn Exchange
-    does x = dealt_of f (G.Data x) added a d buf
+    does x = dealt_of f (Some x) added a d buf
 
     replied : (x : Data) → Replied f x (number x) a d buf (does x)
     unfolding dealt_of number_for task_of performed_of act_of outcome_of said_of written_of
@@ -130,7 +127,7 @@ module _ (added : List ℕ) (a : Address) (d : Device) where
     replied D.TooLong = record { said = refl; buffer = refl }
 
     -- what is left behind
-    left_by_lem : (x : Action) (y : Data) → ((n : ℕ) → refused_core y n d.core ≡ core_error n 0 d.core) → task_of (G.Data y) ≡ T.Act x → (Buffer.number_for x added d ≡ 0 → ⊥) → Refused y (Buffer.number_for x added d) d (does y)
+    left_by_lem : (x : Action) (y : Data) → ((n : ℕ) → refused_core y n d.core ≡ core_error n 0 d.core) → task_of (Some y) ≡ T.Act x → (Buffer.number_for x added d ≡ 0 → ⊥) → Refused y (Buffer.number_for x added d) d (does y)
     unfolding dealt_of performed_of act_of acted_of stored_by
     left_by_lem x y no_report is h =
         let (why, e) = another_has_a_reason (verdict_for x added d) h in
@@ -155,7 +152,7 @@ module _ (added : List ℕ) (a : Address) (d : Device) where
     untouched (D.Wrong r) h = absurd (false≢true h)
     untouched D.TooLong h = absurd (false≢true h)
 
-    cleared_by : (x : Action) (y : Data) → task_of (G.Data y) ≡ T.Act x → Buffer.number_for x added d ≡ 0 → (does y).next.device.core.course.error ≡ 0
+    cleared_by : (x : Action) (y : Data) → task_of (Some y) ≡ T.Act x → Buffer.number_for x added d ≡ 0 → (does y).next.device.core.course.error ≡ 0
     unfolding dealt_of performed_of act_of acted_of
     cleared_by x y is e = rw (is, zero_is_fine (verdict_for x added d) e)
 

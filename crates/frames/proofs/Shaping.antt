@@ -5,7 +5,9 @@ use mathlib.Core.List.{List}
 use Prim.Native.Nat.{ℕ}
 use lib.Dec.{eqb, ltb, leb}
 use lib.ListN.{take}
-use Rattle.std.specs.Prelude.{if◌then◌else◌}
+use Rattle.std.specs.Prelude.{if◌then◌else◌, Err, None, Ok, Option, Result, Some}
+use Rattle.command.specs.declared.refusal.Refusal.{Refusal}
+use Rattle.command.specs.Found.{Found}
 use Rattle.settings.specs.declared.Volume.{Volume}
 use Rattle.settings.specs.declared.Pace.TheVariants.{Top, Start, Cutoff}
 use Rattle.settings.specs.declared.Aspect.{Aspect}
@@ -15,11 +17,7 @@ use Rattle.settings.specs.Units.{millionths_of, goal_of, ticks_of}
 use Rattle.command.specs.declared.Way.{Way}
 use Rattle.command.specs.declared.Command.{Command}
 use Rattle.command.specs.declared.Command.TheVariants as C
-use Rattle.command.specs.declared.Found.{Found}
-use Rattle.command.specs.declared.Found.TheVariants as F
 use Rattle.command.specs.Command.{command_at}
-use Rattle.level.specs.declared.Pressure.{Pressure}
-use Rattle.level.specs.declared.Pressure.TheVariants.{Beyond, Counts}
 use Rattle.settings.specs.declared.Detection.{Detection}
 use Rattle.level.specs.declared.Search.{Search}
 use Rattle.level.specs.declared.Sought.{Sought}
@@ -31,8 +29,6 @@ use Rattle.motion.specs.declared.Body.{Body}
 use Rattle.motion.specs.declared.Travel.{Travel}
 use Rattle.motion.specs.declared.Activity.{Activity}
 use Rattle.motion.specs.declared.Activity.TheVariants.{Initialising, Moving, Delaying, Approaching, Searching, Ejecting, Between}
-use Rattle.motion.specs.declared.Target.{Target}
-use Rattle.motion.specs.declared.Target.TheVariants.{At, Outside}
 use Rattle.motion.specs.declared.Effect.{Effect}
 use Rattle.motion.specs.declared.Effect.TheVariants.{Goes, Ends, Fails, Asks, Opens, Closes}
 use Rattle.motion.specs.Events.{Turn, quiet}
@@ -42,8 +38,6 @@ use Rattle.motion.specs.Motion.{settings_of, detecting_of, set_to, home_of, targ
 use Rattle.buffer.specs.declared.course.State.{State}
 use Rattle.buffer.specs.declared.course.State.TheVariants.{Empty, Stored, Running, Stopped, Done}
 use Rattle.buffer.specs.declared.course.Course.{Course}
-use Rattle.buffer.specs.declared.course.Went.{Went}
-use Rattle.buffer.specs.declared.course.Went.TheVariants.{On, Off}
 use Rattle.buffer.specs.Course.{opened_of, closed_of}
 use Rattle.machine.specs.declared.step.Core.{Core}
 use Rattle.machine.specs.declared.step.Stepped.{Stepped}
@@ -91,22 +85,22 @@ module _ (v c up down k i : ℕ) (sense : Sense) where
   abbrev other_in : Core → Core
   other_in x = core (other x.body) x.course
 
-  aimed_same : (t : Target) (way : Way) (n : Volume) (b : Body) → Same shape_of (aimed t way n (other b)) (aimed t way n b)
+  aimed_same : (t : Option ℕ) (way : Way) (n : Volume) (b : Body) → Same shape_of (aimed t way n (other b)) (aimed t way n b)
   unfolding aimed set_out
-  aimed_same (At exact) way n b = record { next = whichever shape_of (eqb b.plunger (goal_of exact)) _ _ _ _ refl refl; events = refl }
-  aimed_same Outside way n b = record { next = refl; events = refl }
+  aimed_same (Some exact) way n b = record { next = whichever shape_of (eqb b.plunger (goal_of exact)) _ _ _ _ refl refl; events = refl }
+  aimed_same None way n b = record { next = refl; events = refl }
 
   -- B, and its ticks
-  zeroed_same : (here : Bool) (p : Pressure) (b : Body) → Same shape_of (zeroed_of here p (other b)) (zeroed_of here p b)
+  zeroed_same : (here : Bool) (p : Option ℕ) (b : Body) → Same shape_of (zeroed_of here p (other b)) (zeroed_of here p b)
   unfolding zeroed_of approach_of
-  zeroed_same here Beyond b = record { next = refl; events = refl }
-  zeroed_same true (Counts z) b = record { next = refl; events = refl }
-  zeroed_same false (Counts z) b = record { next = whichever shape_of (eqb b.plunger b.settings.detection.place) _ _ _ _ refl refl; events = refl }
+  zeroed_same here None b = record { next = refl; events = refl }
+  zeroed_same true (Some z) b = record { next = refl; events = refl }
+  zeroed_same false (Some z) b = record { next = whichever shape_of (eqb b.plunger b.settings.detection.place) _ _ _ _ refl refl; events = refl }
 
-  approached_same : (p : Pressure) (t : Travel) (z : ℕ) (b : Body) → Same shape_of (approached_of p t z (other b)) (approached_of p t z b)
+  approached_same : (p : Option ℕ) (t : Travel) (z : ℕ) (b : Body) → Same shape_of (approached_of p t z (other b)) (approached_of p t z b)
   unfolding approached_of
-  approached_same Beyond t z b = record { next = refl; events = refl }
-  approached_same (Counts r) t z b = record { next = whichever shape_of (eqb b.plunger t.goal) _ _ _ _ refl refl; events = refl }
+  approached_same None t z b = record { next = refl; events = refl }
+  approached_same (Some r) t z b = record { next = whichever shape_of (eqb b.plunger t.goal) _ _ _ _ refl refl; events = refl }
 
   found_same : (f : Finding) (b : Body) → Same shape_of (found_as f (other b)) (found_as f b)
   unfolding found_as
@@ -115,10 +109,10 @@ module _ (v c up down k i : ℕ) (sense : Sense) where
   found_same Missed b = record { next = refl; events = refl }
   found_same (Finding.On f) b = record { next = refl; events = refl }
 
-  sought_same : (d : Detection) (f : Search) (p : Pressure) → sought_of (aspect_set Interval i d) f p ≡ sought_of d f p
+  sought_same : (d : Detection) (f : Search) (p : Option ℕ) → sought_of (aspect_set Interval i d) f p ≡ sought_of d f p
   unfolding sought_of plunger_in gone_in limit_of left_of finding_of counted_as count_with far
-  sought_same d f Beyond = refl
-  sought_same d f (Counts r) = refl
+  sought_same d f None = refl
+  sought_same d f (Some r) = refl
 
   set_same : (a : Aspect) (n : ℕ) (b : Body) → Same shape_of (quiet (set_to (detecting_of a n (other b).settings) (other b))) (quiet (set_to (detecting_of a n b.settings) b))
   set_same Threshold n b = record { next = refl; events = refl }
@@ -178,9 +172,9 @@ module _ (v c up down k i : ℕ) (sense : Sense) where
   onward_same Ejecting b = record { next = whichever shape_of sense.tip _ _ _ _ refl refl; events = refl }
   onward_same Between b = record { next = refl; events = refl }
 
-  went_same : (w : Went) (b : Body) (x : Course) → shape_behind (went_of w b x) ≡ went_of w (shape b) x
-  went_same (On on) b x = refl
-  went_same (Off why) b x = refl
+  went_same : (w : Result Course Refusal) (b : Body) (x : Course) → shape_behind (went_of w b x) ≡ went_of w (shape b) x
+  went_same (Ok on) b x = refl
+  went_same (Err why) b x = refl
 
   applied_shape : (e : Effect) (next : ℕ) (x : Core) → shape_behind (applied_of e next x) ≡ applied_of (shape_of e) next (shape_in x)
   unfolding applied_of
@@ -196,11 +190,11 @@ module _ (v c up down k i : ℕ) (sense : Sense) where
 
   taken_same : (f : Found) (x : Core) → AsBefore x.body → Same shape_behind (taken_of sense f (other_in x)) (taken_of sense f x)
   unfolding taken_of
-  taken_same (F.Command y next) x h =
+  taken_same (Ok (Some (y, next))) x h =
       let s = effect_same y x.body h in
       record { next = applied_same (effect_of sense y (other x.body)).next (effect_of sense y x.body).next next x s.next; events = s.events }
-  taken_same (F.Refused m) x h = record { next = refl; events = refl }
-  taken_same F.End x h = record { next = refl; events = refl }
+  taken_same (Err m) x h = record { next = refl; events = refl }
+  taken_same (Ok None) x h = record { next = refl; events = refl }
 
   running_same : (a : Activity) (text : List ℕ) (x : Core) → AsBefore x.body → Same shape_behind (running_of a (around text sense) (other_in x)) (running_of a (around text sense) x)
   unfolding running_of carried_on

@@ -5,7 +5,7 @@ use mathlib.Core.List.{List, [], ◌∷◌}
 use Prim.Native.Nat.{ℕ}
 use lib.Dec.{eqb}
 use lib.ListN.{length}
-use Rattle.std.specs.Prelude.{if◌then◌else◌}
+use Rattle.std.specs.Prelude.{if◌then◌else◌, Err, None, Ok, Option, Result, Some}
 use Rattle.basics.proofs.Choice.{by}
 use Rattle.operand.specs.Number.{number_of}
 use Rattle.command.specs.declared.refusal.Misread.{Misread}
@@ -13,10 +13,6 @@ use Rattle.text.specs.declared.Question.{Question}
 use Rattle.text.specs.declared.Question.TheVariants.{Query, Value, Address}
 use Rattle.text.specs.declared.Control.{Control}
 use Rattle.text.specs.declared.Control.TheVariants.{Run, Stop, Again, Clear, Reset}
-use Rattle.text.specs.declared.Asked.{Asked}
-use Rattle.text.specs.declared.Asked.TheVariants as A
-use Rattle.text.specs.declared.Checked.{Checked}
-use Rattle.text.specs.declared.Checked.TheVariants.{Fine, Wrong}
 use Rattle.text.specs.declared.Data.{Data}
 use Rattle.text.specs.declared.Data.TheVariants as D
 use Rattle.text.specs.Text.{check_of}
@@ -57,17 +53,17 @@ pub read_is_not_too_many : {G : Type 0} (b : Bool) (x : Data) → Read b x → x
 read_is_not_too_many b x r e = absurd (never_too_many b x r (rw e tt))
 
 -- each way of reading
-read_report : (f : ℕ → Question) (x : Asked) → Read true (report f x)
-read_report f (A.Number n) = a_report (f n)
-read_report f A.Wrong = no_report
+read_report : (f : ℕ → Question) (x : Option ℕ) → Read true (report f x)
+read_report f (Some n) = a_report (f n)
+read_report f None = no_report
 
 read_address : (t : List ℕ) → Read true (addressed t)
 read_address [] = a_report Address
 read_address (b ∷ t) = no_report
 
-read_checked : (t : List ℕ) (run : Bool) (c : Checked) → Read false (string t run c)
-read_checked t run Fine = a_text (length t) run
-read_checked t run (Wrong r) = no_text r
+read_checked : (t : List ℕ) (run : Bool) (c : Result Unit Misread) → Read false (string t run c)
+read_checked t run (Ok tt) = a_text (length t) run
+read_checked t run (Err r) = no_text r
 
 read_string : (t : List ℕ) → Read false (string_of t)
 unfolding string_of

@@ -7,13 +7,11 @@ use native.Mathlib.Omega.{arith}
 use borrow.Author.Tests.{ltb-false, le-ltb}
 use lib.Dec.{eqb, ltb}
 use lib.ListN.{length}
-use Rattle.std.specs.Prelude.{if◌then◌else◌}
+use Rattle.std.specs.Prelude.{if◌then◌else◌, Err, Ok, Result}
 use Rattle.basics.specs.Exactly.{Exactly}
 use Rattle.command.specs.declared.refusal.Misread.{Misread}
 use Rattle.text.specs.declared.Control.{Control}
 use Rattle.text.specs.declared.Control.TheVariants.{Run, Stop, Again, Clear, Reset}
-use Rattle.text.specs.declared.Checked.{Checked}
-use Rattle.text.specs.declared.Checked.TheVariants.{Fine, Wrong}
 use Rattle.text.specs.declared.Data.{Data}
 use Rattle.text.specs.declared.Data.TheVariants as D
 use Rattle.text.specs.Text.{check_of}
@@ -61,14 +59,14 @@ no_report_first (b ∷ t) h =
     let (no_query, no_value) = neither (eqb b 81) (eqb b 63) two in
     rw (no_query, no_value, no_address)
 
-checked : (t : List ℕ) (run : Bool) (c : Checked) (m : Misread) → string t run c ≡ D.Wrong m → c ≡ Wrong m
-checked t run Fine m e = let z : ◌≡◌ {A = ℕ} 0 1 = cc in absurd (omega arith)
-checked t run (Wrong n) m e = let same : n ≡ m = cc in ap Wrong same
+checked : (t : List ℕ) (run : Bool) (c : Result Unit Misread) (m : Misread) → string t run c ≡ D.Wrong m → c ≡ Err m
+checked t run (Ok tt) m e = let z : ◌≡◌ {A = ℕ} 0 1 = cc in absurd (omega arith)
+checked t run (Err n) m e = let same : n ≡ m = cc in ap Err same
 
 -- data that are read as a string, and what it is refused for
 pub record Refused (ds : List ℕ) (m : Misread) : Type 0 where
   pub string : IsString ds
-  pub judged : Judged (text_in ds) (Wrong m)
+  pub judged : Judged (text_in ds) (Err m)
 
 module _ (ds : List ℕ) (m : Misread) where
   abbrev t : List ℕ
@@ -86,7 +84,7 @@ module _ (ds : List ℕ) (m : Misread) where
       let no_control : control_alone t ≡ false = go (control_alone t) refl by_control in
       record {
         string = record { short = ltb-false 320 (length ds) short; no_report = no_report; no_control = no_control };
-        judged = (the_reader_keeps_to_the_grammar (body t) (Wrong m)).only (checked (body t) (runs t) (check_of (body t)) m (sym (as_string no_report no_control) ∙ e));
+        judged = (the_reader_keeps_to_the_grammar (body t) (Err m)).only (checked (body t) (runs t) (check_of (body t)) m (sym (as_string no_report no_control) ∙ e));
       }
     where
       go : (x : Bool) → control_alone t ≡ x → control_of t ≡ D.Wrong m → x ≡ false
@@ -98,7 +96,7 @@ module _ (ds : List ℕ) (m : Misread) where
   refuses r =
       let s = r.string in
       rw (le-ltb 320 (length ds) s.short)
-      (as_string s.no_report s.no_control ∙ ap (string (body t) (runs t)) ((the_reader_keeps_to_the_grammar (body t) (Wrong m)).always r.judged))
+      (as_string s.no_report s.no_control ∙ ap (string (body t) (runs t)) ((the_reader_keeps_to_the_grammar (body t) (Err m)).always r.judged))
 
   pub a_string_is_refused_exactly_at_its_first_wrong_place : Exactly (received_of ds ≡ D.Wrong m) (Refused ds m)
   unfolding received_of

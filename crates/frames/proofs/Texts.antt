@@ -8,7 +8,7 @@ use borrow.Author.Tests.{le-ltb, lt-ltb}
 use lib.Dec.{ltb}
 use lib.ListN.{length, length-append}
 use lib.Seq.{length-take-le, take-length}
-use Rattle.std.specs.Prelude.{if◌then◌else◌}
+use Rattle.std.specs.Prelude.{if◌then◌else◌, Err, Ok}
 use Rattle.basics.proofs.Choice.{by}
 use Rattle.text.specs.declared.Data.{Data}
 use Rattle.text.specs.declared.Data.TheVariants as D
@@ -19,7 +19,6 @@ use Rattle.buffer.specs.declared.course.State.{State}
 use Rattle.buffer.specs.Course.{begun, waiting}
 use Rattle.machine.specs.declared.Device.{Device}
 use Rattle.command.specs.declared.refusal.Refusal.TheVariants as R
-use Rattle.command.specs.declared.refusal.Verdict.TheVariants.{Fine, Refused}
 use Rattle.command.specs.Numbers.{verdict_number}
 use Rattle.buffer.specs.declared.order.Loading.TheVariants.{Joined, Replacing}
 use Rattle.buffer.specs.declared.order.Order.{Order}
@@ -64,7 +63,7 @@ module _ (run : Bool) (added : List ℕ) (d : Device) (len : d.core.course.len �
 
   taken :
       (o : Order) (front : List ℕ) → TakesText run (stored_in d) o front → length (front ++ added) ≤ 256 → LoopsRight run front added →
-      verdict_of o (stored_in d) added ≡ Fine
+      verdict_of o (stored_in d) added ≡ Ok tt
   unfolding verdict_of sized loops_by
   taken o front alone h loops =
       let z : 0 + length added ≤ 256 = omega arith in
@@ -73,7 +72,7 @@ module _ (run : Bool) (added : List ℕ) (d : Device) (len : d.core.course.len �
       let z : length (stored_in d) + length added ≤ 256 = rw (length-append (stored_in d) added) at h in
       rw (le-ltb 256 (length (stored_in d) + length added) z, take-length (stored_in d), right run _ loops)
 
-  refused : (o : Order) (front : List ℕ) → TakesText run (stored_in d) o front → 256 < length (front ++ added) → verdict_of o (stored_in d) added ≡ Refused R.TooLong
+  refused : (o : Order) (front : List ℕ) → TakesText run (stored_in d) o front → 256 < length (front ++ added) → verdict_of o (stored_in d) added ≡ Err R.TooLong
   unfolding verdict_of sized
   refused o front alone h = rw (lt-ltb 256 (0 + length added) (omega arith))
   refused o front behind h = rw (lt-ltb 256 (length (stored_in d) + length added) (rw (length-append (stored_in d) added) at h))
@@ -84,7 +83,7 @@ module _ (run : Bool) (added : List ℕ) (d : Device) (len : d.core.course.len �
 
   held :
       (o : Order) (front : List ℕ) → TakesText run (stored_in d) o front → length (front ++ added) ≤ 256 →
-      Holds (front ++ added) (device (stored_by o Fine d.core.course.len added d.text) d.tip (acted_of o Fine (length added) d.core).next)
+      Holds (front ++ added) (device (stored_by o (Ok tt) d.core.course.len added d.text) d.tip (acted_of o (Ok tt) (length added) d.core).next)
   unfolding stored_by laid_by acted_of done_of
   held o front alone h =
       let z : 0 + length added ≡ length added = omega arith in
@@ -122,7 +121,7 @@ module _ (ds : List ℕ) (n : ℕ) (run : Bool) (is : received_of ds ≡ D.Text 
     unfolding refusal_of number_for
     text_number = rw is
 
-    text_device : verdict_of order (stored_in d) (added_of ds) ≡ Fine → (exchange_of f ds a d buf).next.device ≡ device (stored_by order Fine d.core.course.len (added_of ds) d.text) d.tip (acted_of order Fine (length (added_of ds)) d.core).next
+    text_device : verdict_of order (stored_in d) (added_of ds) ≡ Ok tt → (exchange_of f ds a d buf).next.device ≡ device (stored_by order (Ok tt) d.core.course.len (added_of ds) d.text) d.tip (acted_of order (Ok tt) (length (added_of ds)) d.core).next
     unfolding exchange_of dealt_of task_of performed_of act_of
     text_device e = rw (is, e)
 

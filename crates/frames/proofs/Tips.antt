@@ -5,11 +5,13 @@ use mathlib.Core.List.{List}
 use Prim.Native.Nat.{ℕ}
 use lib.Dec.{eqb, ltb}
 use lib.ListN.{length, take}
-use Rattle.std.specs.Prelude.{if◌then◌else◌}
+use Rattle.std.specs.Prelude.{if◌then◌else◌, None, Option, Some}
+use Rattle.text.specs.declared.Data.{Data}
+use Rattle.line.specs.declared.Report.{Report}
+use Rattle.command.specs.Verdict.{Verdict}
 use Rattle.basics.proofs.Choice.{by}
 use Rattle.text.specs.declared.Question.TheVariants as Q
 use Rattle.text.specs.declared.Data.TheVariants as D
-use Rattle.command.specs.declared.refusal.Verdict.{Verdict}
 use Rattle.line.specs.declared.Framing.{Framing}
 use Rattle.line.specs.Wire.{framing_of, hear_of, keep_of}
 use Rattle.motion.specs.declared.Sense.{Sense}
@@ -20,11 +22,8 @@ use Rattle.machine.specs.declared.step.Core.{Core}
 use Rattle.machine.specs.declared.Device.{Device}
 use Rattle.machine.specs.Act.{Acted, act_of}
 use Rattle.machine.specs.Device.{fresh_of, tick_of, halted_of}
-use Rattle.reports.specs.declared.Told.{Told}
 use Rattle.reports.specs.Reports.{value_of, tell_of}
 use Rattle.pipettor.specs.declared.address.Address.{Address}
-use Rattle.pipettor.specs.declared.acting.Got.{Got}
-use Rattle.pipettor.specs.declared.acting.Got.TheVariants as G
 use Rattle.pipettor.specs.declared.acting.Task.{Task}
 use Rattle.pipettor.specs.declared.acting.Task.TheVariants as T
 use Rattle.pipettor.specs.declared.Controller.{Controller}
@@ -55,20 +54,20 @@ value_tipped : (n : ℕ) (t u : Bool) (b : Body) (s : State) → eqb n 31 ≡ fa
 unfolding value_of
 value_tipped n t u b s h = rw h
 
-outcome_tipped : (g : Got) (a : Address) (v : Verdict) (t u : Bool) (c : Core) → asks_tip g ≡ false → outcome_of g a v t c ≡ outcome_of g a v u c
+outcome_tipped : (g : Option Data) (a : Address) (v : Verdict) (t u : Bool) (c : Core) → asks_tip g ≡ false → outcome_of g a v t c ≡ outcome_of g a v u c
 unfolding outcome_of tell_of
-outcome_tipped (G.Data (D.Report (Q.Value n))) a v t u c h = ap (λ (x : Told). told_code x c.course.error) (value_tipped n t u c.body c.course.state h)
-outcome_tipped (G.Data (D.Report (Q.Query n))) a v t u c h = refl
-outcome_tipped (G.Data (D.Report Q.Address)) a v t u c h = refl
-outcome_tipped (G.Data D.WrongReport) a v t u c h = refl
-outcome_tipped (G.Data (D.Control k)) a v t u c h = refl
-outcome_tipped (G.Data (D.Text n run)) a v t u c h = refl
-outcome_tipped (G.Data (D.Wrong m)) a v t u c h = refl
-outcome_tipped (G.Data D.TooLong) a v t u c h = refl
-outcome_tipped G.Nothing a v t u c h = refl
+outcome_tipped (Some (D.Report (Q.Value n))) a v t u c h = ap (λ (x : Option Report). told_code x c.course.error) (value_tipped n t u c.body c.course.state h)
+outcome_tipped (Some (D.Report (Q.Query n))) a v t u c h = refl
+outcome_tipped (Some (D.Report Q.Address)) a v t u c h = refl
+outcome_tipped (Some D.WrongReport) a v t u c h = refl
+outcome_tipped (Some (D.Control k)) a v t u c h = refl
+outcome_tipped (Some (D.Text n run)) a v t u c h = refl
+outcome_tipped (Some (D.Wrong m)) a v t u c h = refl
+outcome_tipped (Some D.TooLong) a v t u c h = refl
+outcome_tipped None a v t u c h = refl
 
 -- what a frame does to the device, whatever it asks
-module _ (f : Framing) (g : Got) (added : List ℕ) (a : Address) (t : Bool) (d : Device) (buf : List ℕ) where
+module _ (f : Framing) (g : Option Data) (added : List ℕ) (a : Address) (t : Bool) (d : Device) (buf : List ℕ) where
   dealt_device : (dealt_of f g added a (with_tip t d) buf).next.device ≡ with_tip t (dealt_of f g added a d buf).next.device
   unfolding dealt_of
   dealt_device = ap (λ (x : Turn Acted). x.next.device) (performed_tipped (task_of g) added t d)
@@ -95,7 +94,7 @@ module _ (k : Controller) (b : ℕ) (buf : List ℕ) where
   abbrev frame : List ℕ
   frame = keep_of k.frame (hear_of k.line b).deed b
 
-  abbrev got : Got
+  abbrev got : Option Data
   got = got_of (letter_of k.address) (hear_of k.line b).deed frame
 
   abbrev squeezed : List ℕ

@@ -1,14 +1,13 @@
 -- 01, "Reading the data", as a grammar and not as a reader: a text is commands one behind the other, each a letter with its operand text; or it is so up to its first wrong place.
-use Rattle.std.specs.Prelude.{ℕ, ◌+◌, ◌≡◌, Bool, true, false, ◌||◌, List, [], ◌∷◌, ◌++◌, eqb, length}
+use Rattle.std.specs.Prelude.{ℕ, ◌+◌, ◌≡◌, Bool, true, false, ◌||◌, List, [], ◌∷◌, ◌++◌, eqb, length, Err, Ok, Result}
+use Rattle.command.specs.declared.refusal.Misread.{Misread}
+use Rattle.command.specs.declared.Malformed.TheVariants.{WrongOperand}
 use Rattle.basics.specs.Bytes.{every}
 use Rattle.operand.specs.declared.Class.TheVariants as Class
 use Rattle.operand.specs.Text.{has}
 use Rattle.command.specs.declared.Command.{Command}
-use Rattle.command.specs.declared.Formed.TheVariants.{Made, WrongOperand}
 use Rattle.command.specs.declared.refusal.Misread.TheVariants.{Letter, Operand}
 use Rattle.command.specs.Table.{letter_of, command_of}
-use Rattle.text.specs.declared.Checked.{Checked}
-use Rattle.text.specs.declared.Checked.TheVariants.{Fine, Wrong}
 
 abbrev pub is_among : ℕ → List ℕ → Bool
 is_among b [] = false
@@ -33,7 +32,7 @@ pub data Commands : List ℕ → Type 0 where
   none : Commands []
   command :
       (letter : ℕ) (operand rest : List ℕ) (c : Command) →
-      Operands operand rest → command_of (letter_of letter) operand ≡ Made c → Commands rest → Commands (letter ∷ (operand ++ rest))
+      Operands operand rest → command_of (letter_of letter) operand ≡ Ok c → Commands rest → Commands (letter ∷ (operand ++ rest))
 
 -- "Any character that belongs to no operand text counts as a letter": in front every character, and behind a command all but an operand text's
 abbrev pub Apart : List ℕ → List ℕ → Type 0
@@ -64,10 +63,10 @@ pub record OperandAt (t : List ℕ) (place read : ℕ) : Type 0 where
   pub here : place ≡ at + 1
   pub up_to : UpTo t at (letter ∷ (operand ++ after))
   pub extent : Operands operand after
-  pub untaken : command_of (letter_of letter) operand ≡ WrongOperand read
+  pub untaken : command_of (letter_of letter) operand ≡ Err (WrongOperand read)
 
 -- what the grammar says of a text
-abbrev pub Judged : List ℕ → Checked → Type 0
-Judged t Fine = Commands t
-Judged t (Wrong (Letter place)) = LetterAt t place
-Judged t (Wrong (Operand place read)) = OperandAt t place read
+abbrev pub Judged : List ℕ → Result Unit Misread → Type 0
+Judged t (Ok tt) = Commands t
+Judged t (Err (Letter place)) = LetterAt t place
+Judged t (Err (Operand place read)) = OperandAt t place read

@@ -1,5 +1,5 @@
 -- 01, "Numbers that come back": the number each frame to us gets, and where it gets it.
-use Rattle.std.specs.Prelude.{ℕ, ◌+◌, ◌≤◌, ◌≡◌, ◌⊎◌, Bool, true, false, ◌&&◌, ◌||◌, List, [], ◌∷◌, eqb, length, if◌then◌else◌}
+use Rattle.std.specs.Prelude.{ℕ, ◌+◌, ◌≤◌, ◌≡◌, ◌⊎◌, Bool, true, false, ◌&&◌, ◌||◌, List, [], ◌∷◌, eqb, length, if◌then◌else◌, None, Ok, Option, Some}
 use Rattle.basics.specs.Lay.{over}
 use Rattle.command.specs.declared.refusal.Refusal.TheVariants as R
 use Rattle.command.specs.Numbers.{refusal_number, refusal_column}
@@ -22,17 +22,14 @@ use Rattle.machine.specs.Act.{core_error}
 use Rattle.machine.specs.Refusals as Buffer
 use Rattle.machine.specs.Refusals.{stored_in, NothingToRun, TooMuch, WrongLoops}
 use Rattle.pipettor.specs.declared.address.Address.{Address}
-use Rattle.reports.specs.declared.Told.{Told}
-use Rattle.reports.specs.declared.Told.TheVariants.{Says, No}
-use Rattle.pipettor.specs.declared.Said.TheVariants.{Answer}
 use Rattle.pipettor.specs.Byte.{told_of, action_of, string_action, Exchange}
 use Rattle.frames.specs.Frame.{added_of}
 use Rattle.frames.specs.Grammar.{LetterAt, OperandAt}
 
 -- "Reports never change it; a refused report answers its own code 3 and changes nothing."
-abbrev pub told_number : Told → ℕ
-told_number (Says report) = 0
-told_number No = refusal_number R.Report
+abbrev pub told_number : Option Report → ℕ
+told_number (Some report) = 0
+told_number None = refusal_number R.Report
 
 -- 0 where data are accepted, and else the number they are refused with: too many (15), the first wrong place (2 or 3), then what the buffer says
 unfoldable pub number_for : Data → List ℕ → Address → Device → ℕ
@@ -66,9 +63,9 @@ report_first [] = true
 report_first (b ∷ t) = eqb b 81 || eqb b 63 || eqb b 102
 
 -- what is reported: nothing but in an accepted report
-abbrev pub told_report : Told → Report
-told_report (Says report) = report
-told_report No = Nothing
+abbrev pub told_report : Option Report → Report
+told_report (Some report) = report
+told_report None = Nothing
 
 abbrev pub report_in : Data → Address → Device → Report
 report_in (D.Report q) a d = told_report (told_of q a d.tip d.core)
@@ -88,7 +85,7 @@ answer_to f x number a before after = answer_of f (status_of (ready_of after) (s
 
 -- Every frame to us is answered so; "Bytes after an answer's end stay as they were."
 pub record Replied (f : Framing) (x : Data) (number : ℕ) (a : Address) (d : Device) (buf : List ℕ) (e : Turn Exchange) : Type 0 where
-  pub said : e.next.said ≡ Answer (length (answer_to f x number a d e.next.device.core))
+  pub said : e.next.said ≡ Ok (Some (length (answer_to f x number a d e.next.device.core)))
   pub buffer : e.next.buffer ≡ over (answer_to f x number a d e.next.device.core) 0 buf
 
 -- 02, W-202: the column that a frame leaves, by its data, where another was left before: "the last load refusal by 2 or 3"; "Reports don't set it. It is 0 after any other frame to us"
@@ -142,7 +139,7 @@ pub record WrongLetter (ds : List ℕ) : Type 0 where
 pub data WrongNumber (a : Address) (d : Device) (ds : List ℕ) : Type 0 where
   operand : IsString ds → (place read : ℕ) → OperandAt (text_in ds) place read → WrongNumber a d ds
   report : received_of ds ≡ D.WrongReport → WrongNumber a d ds
-  report_number : (q : Question) → received_of ds ≡ D.Report q → told_of q a d.tip d.core ≡ No → WrongNumber a d ds
+  report_number : (q : Question) → received_of ds ≡ D.Report q → told_of q a d.tip d.core ≡ None → WrongNumber a d ds
   loops_of_control : (c : Control) → received_of ds ≡ D.Control c → WrongLoops (action_of c) d.core.course.state (stored_in d) (added_of ds) → WrongNumber a d ds
   loops_of_text : (n : ℕ) (run : Bool) → received_of ds ≡ D.Text n run → WrongLoops (string_action run) d.core.course.state (stored_in d) (added_of ds) → WrongNumber a d ds
 

@@ -1,7 +1,7 @@
 // Runs the rows of settings' table through the code: the limits of 01's command table with their neighbours, the defaults, and 01's examples of numbers, a line to a row.
 #![tactic(auto)]
 
-use basics::Put;
+use decimal::Decimals;
 use settings::{Pace, Quantity, Range, Settings, Volume, units};
 use std::io::{self, Stdout};
 
@@ -53,7 +53,11 @@ fn usual_speed(out: Stdout, what: &str, of: Pace) -> io::Result<()> {
 
 // A volume in millionths of an increment at C.
 fn millionths(amount: u32, micro: bool, rate: u32) -> u64 {
-    let volume = Volume { amount, micro };
+    let volume = if micro {
+        Volume::Nanolitres(amount)
+    } else {
+        Volume::Increments(amount)
+    };
     volume.millionths(rate)
 }
 
@@ -204,57 +208,49 @@ fn front(out: Stdout, n: usize, buf: &[u8]) -> io::Result<()> {
     Ok(())
 }
 
-// What was laid at the start of a buffer, or that there was no room.
-fn shown(out: Stdout, what: &str, put: Put, buf: &[u8]) -> io::Result<()> {
+// A number written at the start of a buffer, or that there was no room.
+fn written(out: Stdout, what: &str, n: u64, decimals: Decimals, buf: &mut [u8]) -> io::Result<()> {
     print!(out; "{what} ")?;
-    match put {
-        Put::Bytes(n) => front(out, n, buf)?,
-        Put::NoRoom => print!(out; "no room")?,
+    match decimal::put(n, decimals, buf, 0) {
+        Some(size) => front(out, size, buf)?,
+        None => print!(out; "no room")?,
     }
     println!(out)
 }
 
-fn written_whole(out: Stdout, n: u32) -> io::Result<()> {
-    let mut buf = [0u8; 16];
-    let put = decimal::put_whole(n, &mut buf, 0);
-    shown(out, "whole", put, &buf)
+fn whole(out: Stdout, n: u64) -> io::Result<()> {
+    written(out, "whole", n, Decimals::Zero, &mut [0; 16])
 }
 
-fn written_tenths(out: Stdout, n: u32) -> io::Result<()> {
-    let mut buf = [0u8; 16];
-    let put = decimal::put_tenths(n, &mut buf, 0);
-    shown(out, "tenths", put, &buf)
+fn tenths(out: Stdout, n: u64) -> io::Result<()> {
+    written(out, "tenths", n, Decimals::One, &mut [0; 16])
 }
 
-fn written_thousandths(out: Stdout, n: u32) -> io::Result<()> {
-    let mut buf = [0u8; 16];
-    let put = decimal::put_thousandths(n, &mut buf, 0);
-    shown(out, "thousandths", put, &buf)
+fn thousandths(out: Stdout, n: u64) -> io::Result<()> {
+    written(out, "thousandths", n, Decimals::Three, &mut [0; 16])
 }
 
 // Five bytes of room: a number that just fits, and one that doesn't.
-fn written_in_five(out: Stdout, n: u32) -> io::Result<()> {
-    let mut buf = [0u8; 5];
-    let put = decimal::put_thousandths(n, &mut buf, 0);
-    shown(out, "in five bytes", put, &buf)
+fn in_five(out: Stdout, n: u64) -> io::Result<()> {
+    written(out, "in five bytes", n, Decimals::Three, &mut [0; 5])
 }
 
 // Numbers as reports write them.
 fn numbers(out: Stdout) -> io::Result<()> {
-    written_whole(out, 0)?;
-    written_whole(out, 44_000)?;
-    written_whole(out, 4_294_967_295)?;
-    written_tenths(out, 80_000)?;
-    written_tenths(out, 1_001)?;
-    written_tenths(out, 7)
+    whole(out, 0)?;
+    whole(out, 44_000)?;
+    whole(out, 4_294_967_295)?;
+    tenths(out, 80_000)?;
+    tenths(out, 1_001)?;
+    tenths(out, 7)
 }
 
 fn decimals(out: Stdout) -> io::Result<()> {
-    written_thousandths(out, 2_503)?;
-    written_thousandths(out, 7)?;
-    written_thousandths(out, 1_100_000)?;
-    written_in_five(out, 2_503)?;
-    written_in_five(out, 12_503)
+    thousandths(out, 2_503)?;
+    thousandths(out, 7)?;
+    thousandths(out, 1_100_000)?;
+    in_five(out, 2_503)?;
+    in_five(out, 12_503)
 }
 
 fn main(rt: HostRuntime) -> io::Result<()> {

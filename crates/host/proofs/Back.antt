@@ -1,9 +1,9 @@
 -- What is written of a controller is read back as that controller, and is taken.
 use mathlib.Core.Path.{◌≡◌, refl}
 use mathlib.Core.Bool.{Bool, true, false}
-use Prim.Native.Nat.{ℕ}
-use borrow.Author.Tests.{eq-eqb}
-use lib.Dec.{ltb, leb, eqb}
+use native.Mathlib.Omega.{arith}
+use lib.Dec.{ltb, leb}
+use Rattle.std.specs.Prelude.{Ok}
 use Rattle.line.specs.declared.Line.{Line}
 use Rattle.line.specs.declared.Line.TheVariants.{Dt, Oem}
 use Rattle.line.specs.declared.dt.Dt.TheVariants as D
@@ -14,7 +14,6 @@ use Rattle.buffer.specs.declared.course.State.TheVariants.{Empty, Stored, Runnin
 use Rattle.machine.specs.Valid as Machine
 use Rattle.pipettor.specs.declared.address.Address.{Address}
 use Rattle.pipettor.specs.declared.address.Address.TheVariants.{One, Two, Three, Four, Five, Six, Seven, Eight, Nine}
-use Rattle.pipettor.specs.declared.address.Given.TheVariants as G
 use Rattle.pipettor.specs.declared.Controller.{Controller}
 use Rattle.pipettor.specs.Address.{address_of}
 use Rattle.pipettor.specs.Valid.{Valid}
@@ -29,25 +28,13 @@ use Rattle.host.specs.Host.{address_number, address_in, address_held, pose_of, r
 use Rattle.image.proofs.Sounding.{valid_sound}
 
 -- numbers are themselves
-same_number : (n : ℕ) → eqb n n ≡ true
-same_number n = eq-eqb n n refl
-
 same_held_lem : (h : Held) → same_held h h ≡ true
 unfolding same_held
-same_held_lem h = rw (same_number h.tag, same_number h.owner, same_number h.sequence, same_number h.sum, same_number h.count)
+same_held_lem h = grind arith
 
 same_progress_lem : (p : Progress) → same_progress p p ≡ true
 unfolding same_progress
-same_progress_lem p =
-    rw (
-      same_number p.tag,
-      same_number p.from,
-      same_number p.goal,
-      same_number p.speed,
-      same_number p.ticks,
-      same_number p.zero,
-      same_number p.count,
-    )
+same_progress_lem p = grind arith
 
 -- tags
 line_by_tag : (l : Line) → line_by (held_of l) ≡ l
@@ -83,7 +70,7 @@ pub flag_small : (b : Bool) → leb (flag_of b) 1 ≡ true
 flag_small true = refl
 flag_small false = refl
 
-address_back : (a : Address) → address_of (address_number a) ≡ G.Is a
+address_back : (a : Address) → address_of (address_number a) ≡ Ok a
 unfolding address_of
 address_back One = refl
 address_back Two = refl
@@ -123,7 +110,7 @@ module _ (p : Pose) where
 
 -- the whole
 module _ (k : Controller) where
-  pub address_held_lem : address_held (encode_of k) ≡ G.Is k.address
+  pub address_held_lem : address_held (encode_of k) ≡ Ok k.address
   unfolding encode_of address_in
   address_held_lem = address_back k.address
 

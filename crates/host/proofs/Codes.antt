@@ -7,9 +7,12 @@ use native.Mathlib.Omega.{arith}
 use borrow.Author.Tests.{leb-true, ltb-false}
 use lib.Dec.{ltb}
 use lib.ListN.{length}
+use Rattle.std.specs.Prelude.{Err, None, Ok, Option, Result, Some}
+use Rattle.pipettor.specs.declared.address.S2.{S2}
+use Rattle.pipettor.specs.declared.address.Address.{Address}
+use Rattle.line.specs.declared.Report.{Report}
+use Rattle.command.specs.Verdict.{Verdict}
 use Rattle.basics.proofs.Choice.{by}
-use Rattle.command.specs.declared.refusal.Verdict.{Verdict}
-use Rattle.command.specs.declared.refusal.Verdict.TheVariants.{Fine, Refused}
 use Rattle.command.specs.Numbers.{verdict_number}
 use Rattle.command.proofs.Numbers.{every_number_is_1_to_15}
 use Rattle.line.specs.declared.Framing.{Framing}
@@ -30,10 +33,6 @@ use Rattle.machine.specs.Device.{ran_of}
 use Rattle.machine.specs.Valid.{Valid}
 use Rattle.machine.proofs.Runs.{count_within}
 use Rattle.motion.specs.declared.Sense.{Sense}
-use Rattle.pipettor.specs.declared.acting.Outcome.{Outcome}
-use Rattle.pipettor.specs.declared.acting.Outcome.TheVariants.{Mute, Tell}
-use Rattle.pipettor.specs.declared.address.Given.{Given}
-use Rattle.pipettor.specs.declared.address.Given.TheVariants as G
 use Rattle.pipettor.specs.Byte.{said_of, dealt_of, heard_of, byte_of}
 use Rattle.image.specs.Sound.{flag_of}
 use Rattle.image.specs.Image.{pose_in, is_pose, idle}
@@ -44,8 +43,8 @@ use Rattle.host.proofs.Just.{pose_valid, mover_just}
 
 -- numbers that come out
 verdict_small : (v : Verdict) → verdict_number v ≤ 15
-verdict_small Fine = omega arith
-verdict_small (Refused why) = (every_number_is_1_to_15 why).1
+verdict_small (Ok tt) = omega arith
+verdict_small (Err why) = (every_number_is_1_to_15 why).1
 
 pub flag_up_to_1 : (b : Bool) → flag_of b ≤ 1
 flag_up_to_1 b = leb-true (flag_of b) 1 (flag_small b)
@@ -54,10 +53,10 @@ news_below : (n : ℕ) (news : News) → n ≤ 60000 → news_code n news < 9223
 unfolding news_code
 news_below n news h = omega (arith, h, verdict_small news.failed, flag_up_to_1 news.eject)
 
-said_below : (f : Framing) (o : Outcome) (ready : Bool) → said_code (said_of f o ready) < 9223372036854775808
+said_below : (f : Framing) (o : Option (Report × ℕ)) (ready : Bool) → said_code (said_of f o ready) < 9223372036854775808
 unfolding said_of
-said_below f Mute ready = omega arith
-said_below f (Tell report code) ready = omega (arith, answer_fits f (status_of ready code) report)
+said_below f None ready = omega arith
+said_below f (Some (report, code)) ready = omega (arith, answer_fits f (status_of ready code) report)
 
 taken_within : (l : Line) (bytes : List ℕ) → length (before_frame l bytes) ≤ length bytes
 unfolding before_frame
@@ -72,10 +71,10 @@ module _ (m : Memory) where
     abbrev Told : Spoke → Type 0
     Told x = Tells m buf x
 
-    ended_told : (g : Given) → ltb (length buf) 32 ≡ false → Told (ended_by g b buf m)
+    ended_told : (g : Result Address S2) → ltb (length buf) 32 ≡ false → Told (ended_by g b buf m)
     unfolding ended_by byte_of heard_of dealt_of
-    ended_told (G.Is a) h = by Told (moves m.mover) (λ v. value (rw h (said_below _ _ _))) (λ v. no_controller refl)
-    ended_told G.S2 h = no_controller refl
+    ended_told (Ok a) h = by Told (moves m.mover) (λ v. value (rw h (said_below _ _ _))) (λ v. no_controller refl)
+    ended_told (Err _) h = no_controller refl
 
     heard_told : (d : Deed) (l : Line) → ltb (length buf) 32 ≡ false → Told (heard_by d l b buf m)
     unfolding heard_by

@@ -31,7 +31,7 @@ use Rattle.image.specs.Progress.{progress_of}
 use Rattle.image.specs.Image.{small_of, idle}
 use Rattle.host.specs.Host.{encode_of, received, moved, pose_of, address_held, news_code, spoke, spoken_of, turned_in, tick_in, run_in, stop_in, listen_in, ended_by, heard_by, byte_in}
 use Rattle.host.specs.Session.{Call, byte, listen, tick, advance, run, stop, call_in, call_of, written_down, session_in, session_of}
-use Rattle.image.proofs.Rows.{and_left}
+use Rattle.std.proofs.lemmas.Bool.{and_parts}
 use Rattle.host.proofs.Back.{line_held_lem, receiver_taken, device_held_lem, mover_taken, controller_held_lem, address_held_lem}
 
 -- a tick while nothing runs
@@ -51,7 +51,7 @@ idle_steps (S.Running Ejecting) w c e = absurd (false≢true e)
 
 idle_tick : (s : Sense) (d : Device) → idle (small_of (pose_of d)) ≡ true → (tick_of s d).next ≡ turned 1 s d (fine d.core)
 unfolding idle tick_of step_of
-idle_tick s d e = ap (turned 1 s d) (idle_steps d.core.course.state (around d.text s) d.core (and_left _ _ e))
+idle_tick s d e = ap (turned 1 s d) (idle_steps d.core.course.state (around d.text s) d.core (and_parts _ _ e).0)
 
 -- a call on what is written of a controller is the method, written
 module _ (k : Controller) (v : Valid k) where

@@ -5,6 +5,9 @@ use mathlib.Core.List.{List, [], ◌∷◌}
 use Prim.Native.Nat.{ℕ}
 use lib.Dec.{ltb, leb}
 use lib.ListN.{length, get_or, set}
+use Rattle.std.specs.Prelude.{Err, Ok, Result}
+use Rattle.pipettor.specs.declared.address.S2.{S2}
+use Rattle.pipettor.specs.declared.address.Address.{Address}
 use Rattle.basics.proofs.Choice.{by}
 use Rattle.line.specs.declared.Line.{Line}
 use Rattle.line.specs.declared.Deed.{Deed}
@@ -13,13 +16,11 @@ use Rattle.line.specs.Wire.{hear_of}
 use Rattle.motion.specs.declared.Sense.{Sense}
 use Rattle.machine.specs.declared.Device.{Device}
 use Rattle.machine.specs.declared.Turned.{Turned}
-use Rattle.pipettor.specs.declared.address.Given.{Given}
-use Rattle.pipettor.specs.declared.address.Given.TheVariants as G
 use Rattle.image.specs.Sound.{flag_of}
 use Rattle.image.specs.Image.{pose_in, is_pose, idle}
 use Rattle.host.specs.Host.{Receiver, Mover, Memory, memory, mover, line_held, receives, moves, address_held, Done, Spoke, turned_in, tick_in, run_in, stop_in, listen_in, ended_by, heard_by, byte_in, addressed, is_image}
 use Rattle.host.specs.Session.{Sized, Call, byte, listen, tick, advance, run, stop, call_in}
-use Rattle.image.proofs.Rows.{and_right}
+use Rattle.std.proofs.lemmas.Bool.{and_parts}
 use Rattle.host.proofs.Back.{flag_small}
 use Rattle.host.proofs.Just.{built}
 
@@ -59,11 +60,11 @@ module _ (m : Memory) (z : Sized m) (e : is_image m ≡ false) where
   other_mover v h = elsewhere_than_mover (addressed (address_held m)) (receives m.receiver) (moves v) (rw h at e)
 
   -- a byte
-  ended_stray : (b : ℕ) (buf : List ℕ) (g : Given) → address_held m ≡ g → receives m.receiver ≡ true → Stray (ended_by g b buf m).memory
+  ended_stray : (b : ℕ) (buf : List ℕ) (g : Result Address S2) → address_held m ≡ g → receives m.receiver ≡ true → Stray (ended_by g b buf m).memory
   unfolding ended_by is_image addressed
-  ended_stray b buf (G.Is a) h r =
+  ended_stray b buf (Ok a) h r =
       by (λ (x : Spoke). Stray x.memory) (moves m.mover) (λ v. absurd (false≢true (sym (rw (h, r, v) at e)))) (λ v. e)
-  ended_stray b buf G.S2 h r = e
+  ended_stray b buf (Err _) h r = e
 
   heard_stray : (b : ℕ) (buf : List ℕ) (d : Deed) (l : Line) → receives m.receiver ≡ true → Stray (heard_by d l b buf m).memory
   unfolding heard_by
@@ -89,7 +90,7 @@ module _ (m : Memory) (z : Sized m) (e : is_image m ≡ false) where
   idle_stray : (s : Sense) → idle m.mover.small ≡ true → Stray (memory m.address m.receiver (mover m.mover.wide m.mover.words (set m.mover.small 3 (flag_of s.tip)) m.mover.text))
   unfolding is_image idle
   idle_stray s h =
-      rw (tip_alone m.mover.wide m.mover.words m.mover.small (flag_of s.tip) z.small (flag_small s.tip) (and_right (ltb (get_or m.mover.small 1 0) 4) _ h)) e
+      rw (tip_alone m.mover.wide m.mover.words m.mover.small (flag_of s.tip) z.small (flag_small s.tip) (and_parts (ltb (get_or m.mover.small 1 0) 4) _ h).1) e
 
   call_stray : (c : Call) → Stray (call_in c m).memory
   unfolding call_in tick_in listen_in run_in stop_in

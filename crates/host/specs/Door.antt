@@ -1,9 +1,8 @@
 -- What holds across the door, for every memory and every list of calls.
-use Rattle.std.specs.Prelude.{◌≡◌, true, false, List, ℕ, ◌+◌, ◌<◌}
+use Rattle.std.specs.Prelude.{◌≡◌, true, false, List, ℕ, ◌+◌, ◌<◌, Ok}
 use Rattle.basics.specs.Exactly.{Exactly}
 use Rattle.line.specs.declared.Framing.{Framing}
 use Rattle.pipettor.specs.declared.address.Address.{Address}
-use Rattle.pipettor.specs.declared.address.Given.TheVariants.{Is}
 use Rattle.pipettor.specs.declared.Controller.{Controller}
 use Rattle.pipettor.specs.Controller.{made_of}
 use Rattle.host.specs.Host.{Memory, encode_of, address_held, controller_held, s1, s2, s3, broken, unframed, plunger_in, exact_in, ready_in, error_in, is_image}
@@ -13,10 +12,10 @@ pub record Door : Type 0 where
   -- the test of a whole image takes what some controller of making and calls' bounds is written as, and nothing else
   pub an_image_is_a_controller_written : (m : Memory) → Sized m → Exactly (is_image m ≡ true) (Holds m)
   -- reading is the inverse of writing
-  pub the_address_is_read_back : (k : Controller) → address_held (encode_of k) ≡ Is k.address
+  pub the_address_is_read_back : (k : Controller) → address_held (encode_of k) ≡ Ok k.address
   pub what_is_written_is_read_back : (k : Controller) → controller_held k.address (encode_of k) ≡ k
   -- and writing of reading
-  pub what_is_read_is_written_back : (m : Memory) → Sized m → is_image m ≡ true → (a : Address) → address_held m ≡ Is a → encode_of (controller_held a m) ≡ m
+  pub what_is_read_is_written_back : (m : Memory) → Sized m → is_image m ≡ true → (a : Address) → address_held m ≡ Ok a → encode_of (controller_held a m) ≡ m
   -- no call but making makes an image of what is none
   pub what_is_no_image_stays_none : (c : Call) (m : Memory) → Sized m → is_image m ≡ false → is_image (call_in c m).memory ≡ false
   -- a value and a refusal are told apart by 2^63, and a refusal changes nothing; no slice has 2^63 bytes

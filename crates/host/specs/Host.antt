@@ -1,5 +1,9 @@
 -- What each function for hosts does: the method, between reading the host's memory and writing it. Each is lent the parts of the memory that it needs.
-use Rattle.std.specs.Prelude.{ℕ, ◌+◌, ◌*◌, List, [], ◌∷◌, Bool, true, false, ◌&&◌, ltb, eqb, length, get_or, set, if◌then◌else◌}
+use Rattle.std.specs.Prelude.{ℕ, ◌+◌, ◌*◌, List, [], ◌∷◌, Bool, true, false, ◌&&◌, ltb, eqb, length, get_or, set, if◌then◌else◌, Err, None, Ok, Option, Result, Some}
+use Rattle.pipettor.specs.declared.address.S2.{S2}
+use Rattle.pipettor.specs.Said.{Said}
+use Rattle.machine.specs.declared.S3.{S3}
+use Rattle.line.specs.declared.Framing.{Framing}
 use Rattle.command.specs.Numbers.{verdict_number}
 use Rattle.line.specs.declared.Framing.TheVariants as F
 use Rattle.line.specs.declared.Line.{Line}
@@ -9,28 +13,21 @@ use Rattle.line.specs.Wire.{hear_of, feed, before_frame}
 use Rattle.motion.specs.declared.Sense.{Sense}
 use Rattle.machine.specs.declared.Device.{Device}
 use Rattle.machine.specs.declared.Turned.{Turned}
-use Rattle.machine.specs.declared.Used.{Used}
-use Rattle.machine.specs.declared.Used.TheVariants.{Ticks, S3}
 use Rattle.machine.specs.declared.step.News.{News}
 use Rattle.machine.specs.declared.step.Core.{Core}
+use Rattle.machine.specs.declared.step.Stepped.{Stepped}
 use Rattle.machine.specs.Run.{ready_of}
-use Rattle.machine.specs.Device.{device, tick_of, halted_of, advance_of, ran_of}
+use Rattle.machine.specs.Device.{device, tip_after, tick_of, halted_of, advance_of, ran_of}
 use Rattle.pipettor.specs.declared.address.Address.{Address}
 use Rattle.pipettor.specs.declared.address.Address.TheVariants.{One, Two, Three, Four, Five, Six, Seven, Eight, Nine}
-use Rattle.pipettor.specs.declared.address.Given.{Given}
-use Rattle.pipettor.specs.declared.address.Given.TheVariants as G
 use Rattle.pipettor.specs.Address.{address_of}
 use Rattle.pipettor.specs.declared.Controller.{Controller}
-use Rattle.pipettor.specs.declared.Said.{Said}
-use Rattle.pipettor.specs.declared.Said.TheVariants.{Silent, Answer, S1}
 use Rattle.pipettor.specs.Byte.{After, byte_of}
 use Rattle.pipettor.specs.Controller.{made_of}
 use Rattle.pipettor.specs.Listening.{at}
 use Rattle.image.specs.declared.Pose.{Pose}
 use Rattle.host.specs.declared.Gone.{Gone}
 use Rattle.host.specs.declared.Run.{Run}
-use Rattle.host.specs.declared.Framed.{Framed}
-use Rattle.host.specs.declared.Framed.TheVariants as M
 use Rattle.image.specs.Sound.{flag_of}
 use Rattle.image.specs.Image.{line_of, count_of, line_in, is_line, wide_of, words_of, small_of, pose_in, is_pose, idle}
 
@@ -100,10 +97,17 @@ device_held v = device v.text (pose_held v).tip (pose_held v).core
 abbrev pub moves : Mover → Bool
 moves v = is_pose (pose_held v) v.words v.small
 
-unfoldable pub address_in : List ℕ → Given
+-- what is read, if it is written just so
+unfoldable pub line_read : List ℕ → List ℕ → Option Line
+line_read l c = if is_line l c then Some (line_in l c) else None
+
+unfoldable pub pose_read : List ℕ → List ℕ → List ℕ → Option Pose
+pose_read w n s = if is_pose (pose_in w n s) n s then Some (pose_in w n s) else None
+
+unfoldable pub address_in : List ℕ → Result Address S2
 address_in a = address_of (get_or a 0 0)
 
-abbrev pub address_held : Memory → Given
+abbrev pub address_held : Memory → Result Address S2
 address_held m = address_in m.address
 
 abbrev pub controller_held : Address → Memory → Controller
@@ -126,17 +130,17 @@ abbrev pub unframed : ℕ
 unframed = 9223372036854776065
 
 abbrev pub said_code : Said → ℕ
-said_code Silent = 0
-said_code (Answer n) = n
-said_code S1 = s1
+said_code (Ok None) = 0
+said_code (Ok (Some n)) = n
+said_code (Err e) = s1
 
 -- what ticks tell: the number of a failure above 2^32, and above 2^36 that the tip is to be dropped
 unfoldable pub news_code : ℕ → News → ℕ
 news_code n news = n + (verdict_number news.failed * 4294967296 + flag_of news.eject * 68719476736)
 
-abbrev pub used_code : Used → News → ℕ
-used_code (Ticks n) news = news_code n news
-used_code S3 news = s3
+abbrev pub used_code : Result ℕ S3 → News → ℕ
+used_code (Ok n) news = news_code n news
+used_code (Err e) news = s3
 
 -- a part of the memory after a call, with what is returned
 pub record Done (A : Type 0) : Type 0 where
@@ -158,7 +162,10 @@ spoke m buf code = record { memory = m; buffer = buf; code = code }
 abbrev pub spoken_of : After → Spoke
 spoken_of a = spoke (encode_of a.reply.controller) a.buffer (said_code a.reply.said)
 
--- a device's numbers after ticks, after a run and after a stop
+-- a device's numbers after so many ticks, which left this; after ticks, after a run and after a stop
+abbrev pub turned_pose : ℕ → Sense → Pose → Stepped → Gone
+turned_pose n s p t = record { pose = record { tip = tip_after n s p.tip; core = t.core }; news = t.news }
+
 unfoldable pub gone_pose : ℕ → Sense → List ℕ → Pose → Gone
 gone_pose n s text p = let t = advance_of n s (device text p.tip p.core) in record { pose = pose_of t.device; news = t.news }
 
@@ -211,9 +218,9 @@ listen_in bytes r =
     else done r broken
 
 -- a byte that completes a frame needs all; any other the receiver alone
-unfoldable pub ended_by : Given → ℕ → List ℕ → Memory → Spoke
-ended_by (G.Is a) b buf m = if moves m.mover then spoken_of (byte_of (controller_held a m) b buf).next else spoke m buf broken
-ended_by G.S2 b buf m = spoke m buf broken
+unfoldable pub ended_by : Result Address S2 → ℕ → List ℕ → Memory → Spoke
+ended_by (Ok a) b buf m = if moves m.mover then spoken_of (byte_of (controller_held a m) b buf).next else spoke m buf broken
+ended_by (Err e) b buf m = spoke m buf broken
 
 unfoldable pub heard_by : Deed → Line → ℕ → List ℕ → Memory → Spoke
 heard_by Nothing l b buf m = spoke (memory m.address (received l m.receiver.frame) m.mover) buf 0
@@ -227,24 +234,24 @@ byte_in b buf m =
     else spoke m buf broken
 
 -- making: framing 0 is DT, 1 is OEM
-unfoldable pub framing_of : ℕ → Framed
+unfoldable pub framing_of : ℕ → Option Framing
 framing_of n =
-    if eqb n 0 then M.Is F.Dt
-    else if eqb n 1 then M.Is F.Oem
-    else M.Unframed
+    if eqb n 0 then Some F.Dt
+    else if eqb n 1 then Some F.Oem
+    else None
 
-unfoldable pub made_by : Framed → Given → Memory → Done Memory
-made_by (M.Is f) (G.Is a) m = done (encode_of (made_of f a).next) 0
-made_by (M.Is f) G.S2 m = done m s2
-made_by M.Unframed g m = done m unframed
+unfoldable pub made_by : Option Framing → Result Address S2 → Memory → Done Memory
+made_by (Some f) (Ok a) m = done (encode_of (made_of f a).next) 0
+made_by (Some f) (Err e) m = done m s2
+made_by None g m = done m unframed
 
 abbrev pub made_in : ℕ → ℕ → Memory → Done Memory
 made_in f n m = made_by (framing_of f) (address_of n) m
 
 -- whether all of it is a controller
-unfoldable pub addressed : Given → Bool
-addressed (G.Is a) = true
-addressed G.S2 = false
+unfoldable pub addressed : Result Address S2 → Bool
+addressed (Ok a) = true
+addressed (Err e) = false
 
 unfoldable pub is_image : Memory → Bool
 is_image m = addressed (address_held m) && (receives m.receiver && moves m.mover)

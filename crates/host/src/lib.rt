@@ -1,20 +1,20 @@
 // The controller for hosts in C and Rust: every call is lent the memory that the host keeps it in, and refuses memory that holds no controller. No function has a premise. host_c exports them to C.
 #![tactic(auto)]
 
-ghost use Rattle.std.specs.Prelude.{◌≡◌, ltb, length};
+ghost use Rattle.std.specs.Prelude.{◌≡◌, ltb, length, IfSome};
 ghost use Rattle.motion.specs.Bodies.{sensing};
 ghost use Rattle.machine.specs.Valid.{Valid};
 ghost use Rattle.image.specs.Image.{line_in};
-ghost use Rattle.host.specs.Host.{receiver, mover, memory, done, spoke, address_number, address_in, said_code, news_code, gone_pose, ran_pose, halted_pose, used_code, framing_of, made_in, byte_in, ended_by, address_held, listen_in, tick_in, advance_in, run_in, stop_in, plunger_in, exact_in, ready_in, error_in, check_in};
+ghost use Rattle.host.specs.Host.{receiver, mover, memory, done, spoke, address_number, address_in, line_read, pose_read, said_code, news_code, turned_pose, gone_pose, ran_pose, halted_pose, used_code, framing_of, made_in, byte_in, ended_by, address_held, listen_in, tick_in, advance_in, run_in, stop_in, plunger_in, exact_in, ready_in, error_in, check_in};
 
-use command::refusal::Verdict;
-use image::{Pose, numbers};
+use command::refusal;
+use image::Pose;
 use line::{Deed, Framing, Line};
-use machine::step::News;
-use machine::{Used, step};
+use machine::step;
+use machine::step::{News, Stepped};
 use motion::Sense;
-use pipettor::address::{Address, Given};
-use pipettor::lent::Parts;
+use pipettor::address::Address;
+use pipettor::lent::{Parts, Spoke};
 use pipettor::{Controller, Said};
 
 // What no other answer is: the top bit is set.
@@ -28,20 +28,14 @@ pub const BROKEN: u64 = 9_223_372_036_854_776_064;
 
 pub const UNFRAMED: u64 = 9_223_372_036_854_776_065;
 
-// A framing, or that the number is none.
-#[derive(Clone, Copy)]
-pub enum Framed {
-    Is(Framing),
-    Unframed,
-}
-
-fn framing_of(n: u32) -> Framed
+#[tactic(auto, unfolding(crate::specs::Host::framing_of))]
+fn framing_of(n: u32) -> Option<Framing>
     ensures { result ≡ framing_of n }
 {
     match n {
-        0 => Framed::Is(Framing::Dt),
-        1 => Framed::Is(Framing::Oem),
-        _ => Framed::Unframed,
+        0 => Some(Framing::Dt),
+        1 => Some(Framing::Oem),
+        _ => None,
     }
 }
 
@@ -61,47 +55,65 @@ fn address_number(a: Address) -> u8
     }
 }
 
-fn address_in(address: &[u8; 1]) -> Given
+#[tactic(auto, unfolding(crate::specs::Host::address_in))]
+fn address_in(address: &[u8; 1]) -> Result<Address, pipettor::address::S2>
     ensures { result ≡ address_in address.now }
 {
-    Address::of(numbers::word(address[0]))
+    Address::try_from(u32::from(address[0]))
+}
+
+// The receiver's line, if what is read is one's, written just so.
+#[tactic(auto, unfolding(crate::specs::Host::line_read))]
+fn line_read(line: &[u8; 4], count: &[u32; 1]) -> Option<Line>
+    ensures { result ≡ line_read line.now count.now }
+{
+    if image::is_line(line, count) {
+        Some(image::line_in(line, count))
+    } else {
+        None
+    }
+}
+
+// The device but its text, if what is read is one's, written just so.
+#[tactic(auto, unfolding(crate::specs::Host::pose_read))]
+fn pose_read(wide: &[u64; 8], words: &[u32; 26], small: &[u8; 4]) -> Option<Pose>
+    ensures is { result ≡ pose_read wide.now words.now small.now }
+    ensures valid { IfSome result (λ p. Valid p.core) }
+{
+    let pose = image::pose_in(wide, words, small);
+    if pose.is_written(words, small) {
+        Some(pose)
+    } else {
+        None
+    }
 }
 
 fn code(said: Said) -> u64
     ensures { result ≡ said_code said }
 {
     match said {
-        Said::Silent => 0,
-        Said::Answer(n) => n as u64,
-        Said::S1 => S1,
+        Ok(None) => 0,
+        Ok(Some(n)) => n as u64,
+        Err(_) => S1,
     }
 }
 
-fn sensed(tip: u8, reading: i32) -> Sense
-    ensures { result ≡ sensing (ltb 0 tip) reading }
-{
-    let nothing = Sense::nothing();
-    let seen = nothing.with_tip(numbers::flag(tip));
-    seen.with_reading(reading)
-}
-
 // What ticks tell, above the count.
+#[tactic(auto, unfolding(crate::specs::Host::news_code))]
 fn news_code(n: u32, news: News) -> u64
     ensures { result ≡ news_code n news }
 {
-    let failed = news.failed;
-    let number = failed.number() as u64;
-    let eject = numbers::flag_byte(news.eject) as u64;
-    let low = n as u64;
-    low + (number * 4_294_967_296 + eject * 68_719_476_736)
+    let number = u64::from(refusal::number(news.failed));
+    let eject = u64::from(news.eject);
+    u64::from(n) + (number * 4_294_967_296 + eject * 68_719_476_736)
 }
 
-fn used_code(used: Used, news: News) -> u64
+fn used_code(used: Result<u32, machine::S3>, news: News) -> u64
     ensures { result ≡ used_code used news }
 {
     match used {
-        Used::Ticks(n) => news_code(n, news),
-        Used::S3 => S3,
+        Ok(n) => news_code(n, news),
+        Err(_) => S3,
     }
 }
 
@@ -116,26 +128,33 @@ pub struct Gone {
 #[derive(Clone, Copy)]
 pub struct Run {
     pub gone: Gone,
-    pub used: Used,
+    pub used: Result<u32, machine::S3>,
 }
 
+// After so many ticks, which left this.
+fn turned(p: Pose, ticks: u32, sense: Sense, stepped: Stepped) -> Gone
+    ensures { result ≡ turned_pose ticks sense p stepped }
+{
+    Gone {
+        pose: Pose {
+            tip: machine::tip_after(ticks, sense, p.tip),
+            core: stepped.core,
+        },
+        news: stepped.news,
+    }
+}
+
+// The next three do what a Device's methods do, over a text that stays where the host keeps it.
+#[tactic(auto, using(crate::proofs::Calls::is_gone))]
 fn advanced(p: Pose, n: u32, sense: Sense, text: &[u8]) -> Gone
     requires valid { Valid p.core }
     requires text_len { length text.now ≡ 256 }
     ensures { result ≡ gone_pose n sense text.now p }
 {
-    let core = p.core;
-    let tip = machine::tip_after(n, sense, p.tip);
-    let ticked = step::run(core, text, n, sense);
-    let stepped = ticked.stepped;
-    let after = stepped.core;
-    let news = stepped.news;
-    Gone {
-        pose: Pose { tip, core: after },
-        news,
-    }
+    turned(p, n, sense, step::run(p.core, text, n, sense).stepped)
 }
 
+#[tactic(auto, using(crate::proofs::Calls::too_many, crate::proofs::Calls::is_ran))]
 fn ran(p: Pose, n: u32, sense: Sense, text: &[u8]) -> Run
     requires valid { Valid p.core }
     requires text_len { length text.now ≡ 256 }
@@ -145,42 +164,30 @@ fn ran(p: Pose, n: u32, sense: Sense, text: &[u8]) -> Run
         return Run {
             gone: Gone {
                 pose: p,
-                news: News {
-                    failed: Verdict::Fine,
-                    eject: false,
-                },
+                news: News::none(),
             },
-            used: Used::S3,
+            used: Err(machine::S3),
         };
     }
-    let core = p.core;
-    let ticked = step::run(core, text, n, sense);
-    let stepped = ticked.stepped;
-    let after = stepped.core;
-    let news = stepped.news;
-    let used = ticked.used;
-    let tip = machine::tip_after(used, sense, p.tip);
+    let ran = step::run(p.core, text, n, sense);
     Run {
-        gone: Gone {
-            pose: Pose { tip, core: after },
-            news,
-        },
-        used: Used::Ticks(used),
+        gone: turned(p, ran.used, sense, ran.stepped),
+        used: Ok(ran.used),
     }
 }
 
+#[tactic(auto, unfolding(crate::specs::Host::halted_pose, machine::specs::Device::halted_of))]
 fn stopped(p: Pose) -> Pose
     ensures { result ≡ halted_pose p }
 {
-    let core = p.core;
-    let after = core.stop();
     Pose {
-        tip: p.tip,
-        core: after,
+        core: p.core.stop(),
+        ..p
     }
 }
 
 // A controller of a framing, 0 for DT and 1 for OEM, and of an address of 1 to 9.
+#[tactic(auto, unfolding(crate::specs::Host::made_by, crate::specs::Host::encode_of, crate::specs::Host::received, crate::specs::Host::moved))]
 pub fn pipettor_make(
     framing: u32,
     number: u32,
@@ -195,32 +202,30 @@ pub fn pipettor_make(
 ) -> u64
     ensures { done (memory address.new (receiver line.new count.new frame.new) (mover wide.new words.new small.new text.new)) result ≡ made_in framing number (memory address.old (receiver line.old count.old frame.old) (mover wide.old words.old small.old text.old)) }
 {
-    let Framed::Is(framed) = framing_of(framing) else {
+    let Some(framing) = framing_of(framing) else {
         return UNFRAMED;
     };
-    let Given::Is(a) = Address::of(number) else {
+    let Ok(owner) = Address::try_from(number) else {
         return S2;
     };
-    let made = Controller::fresh(framed, a);
-    let l = made.line;
-    let f = made.frame;
-    let device = made.device;
-    let t = device.text;
-    let core = device.core;
+    let made = Controller::fresh(framing, owner);
     let pose = Pose {
-        tip: device.tip,
-        core,
+        tip: made.device.tip,
+        core: made.device.core,
     };
-    let owner = made.address;
-    *address = [address_number(owner)];
-    *frame = f;
-    *text = t;
-    image::put_line(l, line, count);
+    // An array goes into what is lent by way of a variable.
+    let in_hand = made.frame;
+    let buffered = made.device.text;
+    *address = [address_number(made.address)];
+    *frame = in_hand;
+    *text = buffered;
+    image::put_line(made.line, line, count);
     pose.put(wide, words, small);
     0
 }
 
 // A byte that completes a frame, the line being what it was before it.
+#[tactic(auto, using(crate::proofs::Calls::no_address, crate::proofs::Calls::no_device))]
 fn ended(
     b: u8,
     l: Line,
@@ -237,37 +242,31 @@ fn ended(
     requires { l ≡ line_in line.old count.old }
     ensures { spoke (memory address.new (receiver line.new count.new frame.new) (mover wide.new words.new small.new text.new)) buf.new result ≡ ended_by (address_held (memory address.old (receiver line.old count.old frame.old) (mover wide.old words.old small.old text.old))) b buf.old (memory address.old (receiver line.old count.old frame.old) (mover wide.old words.old small.old text.old)) }
 {
-    let Given::Is(a) = address_in(address) else {
+    let Ok(owner) = address_in(address) else {
         return BROKEN;
     };
-    let pose = image::pose_in(wide, words, small);
-    if !pose.is_written(words, small) {
+    let Some(pose) = pose_read(wide, words, small) else {
         return BROKEN;
-    }
-    let core = pose.core;
+    };
     let parts = Parts {
-        address: a,
+        address: owner,
         line: l,
         tip: pose.tip,
-        core,
+        core: pose.core,
     };
-    let spoke = parts.byte(b, frame, text, buf);
-    let after = spoke.parts;
-    let said = spoke.said;
-    let next = after.line;
-    let done = after.core;
+    let Spoke { parts, said } = parts.byte(b, frame, text, buf);
     let left = Pose {
-        tip: after.tip,
-        core: done,
+        tip: parts.tip,
+        core: parts.core,
     };
-    let owner = after.address;
-    *address = [address_number(owner)];
-    image::put_line(next, line, count);
+    *address = [address_number(parts.address)];
+    image::put_line(parts.line, line, count);
     left.put(wide, words, small);
     code(said)
 }
 
 // One byte received, with a buffer lent for the answer: 0, or how many bytes are answered. All but the end of a frame needs the receiver's numbers alone.
+#[tactic(auto, using(crate::proofs::Calls::short_buffer, crate::proofs::Calls::frame_ends))]
 pub fn pipettor_byte(
     b: u8,
     address: &mut [u8; 1],
@@ -288,21 +287,14 @@ pub fn pipettor_byte(
     if image::collect(b, line, count, frame) {
         return 0;
     }
-    if !image::is_line(line, count) {
+    let Some(l) = line_read(line, count) else {
         return BROKEN;
-    }
-    let l = image::line_in(line, count);
+    };
     let heard = l.hear(b);
-    let deed = heard.deed;
-    let next = heard.line;
-    match deed {
-        Deed::Nothing => {
-            image::put_line(next, line, count);
-            0
-        }
-        Deed::Keep(at) => {
-            line::keep(frame, Deed::Keep(at), b);
-            image::put_line(next, line, count);
+    match heard.deed {
+        Deed::Nothing | Deed::Keep(_) => {
+            line::keep(frame, heard.deed, b);
+            image::put_line(heard.line, line, count);
             0
         }
         Deed::Frame(_, _) => ended(
@@ -312,6 +304,7 @@ pub fn pipettor_byte(
 }
 
 // Bytes up to one that completes a frame, which is left: how many were taken.
+#[tactic(auto, unfolding(crate::specs::Host::listen_in, crate::specs::Host::line_read, crate::specs::Host::received))]
 pub fn pipettor_listen(
     bytes: &[u8],
     line: &mut [u8; 4],
@@ -320,18 +313,16 @@ pub fn pipettor_listen(
 ) -> u64
     ensures { done (receiver line.new count.new frame.new) result ≡ listen_in bytes.now (receiver line.old count.old frame.old) }
 {
-    if !image::is_line(line, count) {
+    let Some(l) = line_read(line, count) else {
         return BROKEN;
-    }
-    let l = image::line_in(line, count);
+    };
     let taken = pipettor::receive(l, frame, bytes);
-    let next = taken.line;
-    let n = taken.n;
-    image::put_line(next, line, count);
-    n as u64
+    image::put_line(taken.line, line, count);
+    taken.n as u64
 }
 
 // A tick of 10 ms, with what the host senses.
+#[tactic(auto, using(crate::proofs::Calls::is_idle_tick, crate::proofs::Calls::not_ticked))]
 pub fn pipettor_tick(
     tip: u8,
     reading: i32,
@@ -342,23 +333,24 @@ pub fn pipettor_tick(
 ) -> u64
     ensures { done (mover wide.new words.new small.new text.now) result ≡ tick_in (sensing (ltb 0 tip) reading) (mover wide.old words.old small.old text.now) }
 {
-    let sense = sensed(tip, reading);
+    let sense = Sense {
+        tip: 0 < tip,
+        reading,
+    };
     if image::is_idle(small) {
-        small[3] = numbers::flag_byte(sense.tip);
+        small[3] = u8::from(sense.tip);
         return 0;
     }
-    let pose = image::pose_in(wide, words, small);
-    if !pose.is_written(words, small) {
+    let Some(pose) = pose_read(wide, words, small) else {
         return BROKEN;
-    }
+    };
     let gone = advanced(pose, 1, sense, text);
-    let left = gone.pose;
-    let news = gone.news;
-    left.put(wide, words, small);
-    news_code(0, news)
+    gone.pose.put(wide, words, small);
+    news_code(0, gone.news)
 }
 
 // Exactly n ticks, ready or not.
+#[tactic(auto, using(crate::proofs::Calls::not_advanced))]
 pub fn pipettor_advance(
     n: u32,
     tip: u8,
@@ -370,19 +362,20 @@ pub fn pipettor_advance(
 ) -> u64
     ensures { done (mover wide.new words.new small.new text.now) result ≡ advance_in n (sensing (ltb 0 tip) reading) (mover wide.old words.old small.old text.now) }
 {
-    let sense = sensed(tip, reading);
-    let pose = image::pose_in(wide, words, small);
-    if !pose.is_written(words, small) {
+    let sense = Sense {
+        tip: 0 < tip,
+        reading,
+    };
+    let Some(pose) = pose_read(wide, words, small) else {
         return BROKEN;
-    }
+    };
     let gone = advanced(pose, n, sense, text);
-    let left = gone.pose;
-    let news = gone.news;
-    left.put(wide, words, small);
-    news_code(0, news)
+    gone.pose.put(wide, words, small);
+    news_code(0, gone.news)
 }
 
 // Up to n ticks, until ready: how many were used, and what they tell.
+#[tactic(auto, using(crate::proofs::Calls::not_run))]
 pub fn pipettor_run(
     n: u32,
     tip: u8,
@@ -394,21 +387,20 @@ pub fn pipettor_run(
 ) -> u64
     ensures { done (mover wide.new words.new small.new text.now) result ≡ run_in n (sensing (ltb 0 tip) reading) (mover wide.old words.old small.old text.now) }
 {
-    let sense = sensed(tip, reading);
-    let pose = image::pose_in(wide, words, small);
-    if !pose.is_written(words, small) {
+    let sense = Sense {
+        tip: 0 < tip,
+        reading,
+    };
+    let Some(pose) = pose_read(wide, words, small) else {
         return BROKEN;
-    }
+    };
     let ran = ran(pose, n, sense, text);
-    let gone = ran.gone;
-    let left = gone.pose;
-    let news = gone.news;
-    let used = ran.used;
-    left.put(wide, words, small);
-    used_code(used, news)
+    ran.gone.pose.put(wide, words, small);
+    used_code(ran.used, ran.gone.news)
 }
 
 // T, from the host.
+#[tactic(auto, using(crate::proofs::Calls::not_stopped))]
 pub fn pipettor_stop(
     wide: &mut [u64; 8],
     words: &mut [u32; 26],
@@ -417,67 +409,59 @@ pub fn pipettor_stop(
 ) -> u64
     ensures { done (mover wide.new words.new small.new text.now) result ≡ stop_in (mover wide.old words.old small.old text.now) }
 {
-    let pose = image::pose_in(wide, words, small);
-    if !pose.is_written(words, small) {
+    let Some(pose) = pose_read(wide, words, small) else {
         return BROKEN;
-    }
-    let left = stopped(pose);
-    left.put(wide, words, small);
+    };
+    stopped(pose).put(wide, words, small);
     0
 }
 
 // Where the plunger is, in increments.
+#[tactic(auto, unfolding(crate::specs::Host::tell_in, crate::specs::Host::pose_read))]
 pub fn pipettor_plunger(wide: &[u64; 8], words: &[u32; 26], small: &[u8; 4]) -> u64
     ensures { result ≡ plunger_in wide.now words.now small.now }
 {
-    let pose = image::pose_in(wide, words, small);
-    if !pose.is_written(words, small) {
+    let Some(pose) = pose_read(wide, words, small) else {
         return BROKEN;
-    }
-    let core = pose.core;
-    let body = core.body;
-    body.plunger as u64
+    };
+    u64::from(pose.core.body.plunger)
 }
 
 // The exact position, in millionths of an increment.
+#[tactic(auto, unfolding(crate::specs::Host::tell_in, crate::specs::Host::pose_read))]
 pub fn pipettor_exact(wide: &[u64; 8], words: &[u32; 26], small: &[u8; 4]) -> u64
     ensures { result ≡ exact_in wide.now words.now small.now }
 {
-    let pose = image::pose_in(wide, words, small);
-    if !pose.is_written(words, small) {
+    let Some(pose) = pose_read(wide, words, small) else {
         return BROKEN;
-    }
-    let core = pose.core;
-    let body = core.body;
-    body.exact
+    };
+    pose.core.body.exact
 }
 
 // 1 where it is ready, 0 where not.
+#[tactic(auto, unfolding(crate::specs::Host::tell_in, crate::specs::Host::pose_read))]
 pub fn pipettor_ready(wide: &[u64; 8], words: &[u32; 26], small: &[u8; 4]) -> u64
     ensures { result ≡ ready_in wide.now words.now small.now }
 {
-    let pose = image::pose_in(wide, words, small);
-    if !pose.is_written(words, small) {
+    let Some(pose) = pose_read(wide, words, small) else {
         return BROKEN;
-    }
-    let core = pose.core;
-    numbers::flag_byte(core.ready()) as u64
+    };
+    u64::from(pose.core.ready())
 }
 
 // The number of the last error, 0 where there is none.
+#[tactic(auto, unfolding(crate::specs::Host::tell_in, crate::specs::Host::pose_read))]
 pub fn pipettor_error(wide: &[u64; 8], words: &[u32; 26], small: &[u8; 4]) -> u64
     ensures { result ≡ error_in wide.now words.now small.now }
 {
-    let pose = image::pose_in(wide, words, small);
-    if !pose.is_written(words, small) {
+    let Some(pose) = pose_read(wide, words, small) else {
         return BROKEN;
-    }
-    let core = pose.core;
-    let course = core.course;
-    course.error as u64
+    };
+    u64::from(pose.core.course.error)
 }
 
 // 0 where all of it is a controller from making and earlier calls, written just so.
+#[tactic(auto, unfolding(crate::specs::Host::is_image, crate::specs::Host::pose_read, crate::specs::Host::addressed))]
 pub fn pipettor_check(
     address: &[u8; 1],
     line: &[u8; 4],
@@ -490,15 +474,12 @@ pub fn pipettor_check(
 ) -> u64
     ensures { result ≡ check_in (memory address.now (receiver line.now count.now frame.now) (mover wide.now words.now small.now text.now)) }
 {
-    let Given::Is(_) = address_in(address) else {
-        return BROKEN;
-    };
-    if !image::is_line(line, count) {
-        return BROKEN;
+    if address_in(address).is_ok()
+        && image::is_line(line, count)
+        && pose_read(wide, words, small).is_some()
+    {
+        0
+    } else {
+        BROKEN
     }
-    let pose = image::pose_in(wide, words, small);
-    if !pose.is_written(words, small) {
-        return BROKEN;
-    }
-    0
 }

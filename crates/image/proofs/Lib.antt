@@ -1,3 +1,3 @@
+pub mod Collecting
 pub mod Rows
 pub mod Sounding
-pub mod Images

@@ -1,7 +1,6 @@
 // A controller's numbers in memory that the host keeps: each at its own width.
 #![tactic(auto)]
 
-pub mod numbers;
 pub mod progress;
 pub mod receiver;
 pub mod sound;
@@ -11,7 +10,7 @@ ghost use Rattle.line.specs.declared.Framing.TheVariants as F;
 ghost use Rattle.line.specs.Wire.{data_byte};
 ghost use Rattle.image.specs.Image.{held_in, line_in, is_line, LineWritten, collects, kept, collect_of, progress_at, settings_in, body_in, loops_in, course_in, pose_in, is_pose, idle, wide_of, words_of, small_of, PoseWritten};
 
-use buffer::course::{Course, Loops, Mark};
+use buffer::course::{Course, Loops, Mark, State};
 use line::{Deed, Line};
 use machine::step::Core;
 use motion::Body;
@@ -39,65 +38,59 @@ fn held_in(line: &[u8; 4], count: &[u32; 1]) -> Held
 }
 
 // The receiver's numbers, read.
+#[tactic(auto, unfolding(crate::specs::Image::line_in))]
 pub fn line_in(line: &[u8; 4], count: &[u32; 1]) -> Line
     ensures { result ≡ line_in line.now count.now }
 {
-    let held = held_in(line, count);
-    held.line()
+    Line::from(held_in(line, count))
 }
 
 // Whether they are a receiver's.
+#[tactic(auto, unfolding(crate::specs::Image::is_line, crate::specs::Image::line_in, crate::specs::Receiver::same_held))]
 pub fn is_line(line: &[u8; 4], count: &[u32; 1]) -> bool
     ensures { result ≡ is_line line.now count.now }
 {
     let held = held_in(line, count);
-    let told = held.line();
-    let just = Held::of(told);
-    just.same(held)
+    Held::from(Line::from(held)) == held
 }
 
 // And written.
 pub fn put_line(l: Line, line: &mut [u8; 4], count: &mut [u32; 1])
     ensures { LineWritten l line.new count.new }
 {
-    let held = Held::of(l);
+    let held = Held::from(l);
     *line = [held.tag, held.owner, held.sequence, held.sum];
     *count = [held.count];
 }
 
 // A data byte, as a DT frame has them.
+#[tactic(auto, unfolding(line::specs::Wire::data_byte))]
 fn is_datum(b: u8) -> bool
     ensures { result ≡ data_byte F.Dt b }
 {
-    if b == b'/' {
-        return false;
-    }
-    line::printable(b)
+    b != b'/' && line::printable(b)
 }
 
+#[tactic(auto, unfolding(crate::specs::Image::collects))]
 fn collects(b: u8, line: &[u8; 4], count: &[u32; 1]) -> bool
     ensures { result ≡ collects b line.now count.now }
 {
-    let room = count[0] < 320;
-    let fits = numbers::both(is_datum(b), room);
-    let sum = numbers::same_byte(line[3], 0, fits);
-    let sequence = numbers::same_byte(line[2], 0, sum);
-    numbers::same_byte(line[0], 2, sequence)
+    line[0] == 2 && line[2] == 0 && line[3] == 0 && is_datum(b) && count[0] < 320
 }
 
 // What most bytes are, a data byte of a DT frame in hand: it is kept and counted.
+#[tactic(auto, using(crate::proofs::Collecting::one_more_fits), unfolding(crate::specs::Image::collect_of, line::specs::Wire::keep_of))]
 pub fn collect(b: u8, line: &mut [u8; 4], count: &mut [u32; 1], frame: &mut [u8; 320]) -> bool
     ensures { kept line.new count.new frame.new result ≡ collect_of b line.old count.old frame.old }
 {
-    if collects(b, line, count) {
-        let n = count[0];
-        let owner = line[1];
-        line::keep(frame, Deed::Keep(n as usize), b);
-        *line = [2, owner, 0, 0];
-        *count = [n + 1];
-        return true;
+    if !collects(b, line, count) {
+        return false;
     }
-    false
+    let n = count[0];
+    line::keep(frame, Deed::Keep(n as usize), b);
+    *line = [2, line[1], 0, 0];
+    *count = [n + 1];
+    true
 }
 
 fn progress_at(words: &[u32; 26], small: &[u8; 4]) -> Progress
@@ -140,13 +133,11 @@ fn settings_in(words: &[u32; 26]) -> Settings
 fn body_in(wide: &[u64; 8], words: &[u32; 26], small: &[u8; 4]) -> Body
     ensures { result ≡ body_in wide.now words.now small.now }
 {
-    let settings = settings_in(words);
-    let initialised = numbers::flag(small[0]);
     Body {
         plunger: words[0],
         exact: wide[0],
-        initialised,
-        settings,
+        initialised: 0 < small[0],
+        settings: settings_in(words),
     }
 }
 
@@ -154,21 +145,21 @@ fn loops_in(wide: &[u64; 8], words: &[u32; 26]) -> Loops
     ensures { result ≡ loops_in wide.now words.now }
 {
     Loops {
-        depth: numbers::size(wide[3]),
+        depth: wide[3] as usize,
         first: Mark {
-            start: numbers::size(wide[4]),
+            start: wide[4] as usize,
             passes: words[15],
         },
         second: Mark {
-            start: numbers::size(wide[5]),
+            start: wide[5] as usize,
             passes: words[16],
         },
         third: Mark {
-            start: numbers::size(wide[6]),
+            start: wide[6] as usize,
             passes: words[17],
         },
         fourth: Mark {
-            start: numbers::size(wide[7]),
+            start: wide[7] as usize,
             passes: words[18],
         },
     }
@@ -177,97 +168,76 @@ fn loops_in(wide: &[u64; 8], words: &[u32; 26]) -> Loops
 fn course_in(wide: &[u64; 8], words: &[u32; 26], small: &[u8; 4]) -> Course
     ensures { result ≡ course_in wide.now words.now small.now }
 {
-    let loops = loops_in(wide, words);
-    let progress = progress_at(words, small);
-    let state = progress.state();
-    let at = numbers::size(wide[1]);
-    let len = numbers::size(wide[2]);
     Course {
-        at,
-        len,
-        loops,
-        state,
+        at: wide[1] as usize,
+        len: wide[2] as usize,
+        loops: loops_in(wide, words),
+        state: State::from(progress_at(words, small)),
         error: small[2],
         misread: words[19],
     }
 }
 
 // The device's numbers, read.
+#[tactic(auto, unfolding(crate::specs::Image::pose_in))]
 pub fn pose_in(wide: &[u64; 8], words: &[u32; 26], small: &[u8; 4]) -> Pose
     ensures { result ≡ pose_in wide.now words.now small.now }
 {
-    let body = body_in(wide, words, small);
-    let course = course_in(wide, words, small);
-    let tip = numbers::flag(small[3]);
     Pose {
-        tip,
-        core: Core { body, course },
+        tip: 0 < small[3],
+        core: Core {
+            body: body_in(wide, words, small),
+            course: course_in(wide, words, small),
+        },
     }
 }
 
 // Whether nothing runs, by the tag, with a tip of the last tick that is one.
+#[tactic(auto, unfolding(crate::specs::Image::idle))]
 pub fn is_idle(small: &[u8; 4]) -> bool
     ensures { result ≡ idle small.now }
 {
-    if small[1] < 4 {
-        return small[3] <= 1;
-    }
-    false
+    small[1] < 4 && small[3] <= 1
 }
 
 impl Pose {
     // Whether what it was read from are a device's numbers.
+    #[tactic(auto, unfolding(crate::specs::Image::is_pose, crate::specs::Progress::same_progress))]
     pub fn is_written(self, words: &[u32; 26], small: &[u8; 4]) -> bool
         ensures { result ≡ is_pose self words.now small.now }
     {
-        let core = self.core;
-        let course = core.course;
-        let state = course.state;
-        let bounded = sound::sound(core);
-        let tip = numbers::byte_up_to(small[3], 1, bounded);
-        let flags = numbers::byte_up_to(small[0], 1, tip);
-        let just = Progress::of(state);
-        let progress = progress_at(words, small);
-        numbers::both(just.same(progress), flags)
+        let just = Progress::from(self.core.course.state);
+        just == progress_at(words, small)
+            && small[0] <= 1
+            && small[3] <= 1
+            && sound::sound(self.core)
     }
 
     fn put_wide(self, wide: &mut [u64; 8])
         ensures { wide.new ≡ wide_of self }
     {
-        let core = self.core;
-        let body = core.body;
-        let course = core.course;
+        let course = self.core.course;
         let loops = course.loops;
-        let first = loops.first;
-        let second = loops.second;
-        let third = loops.third;
-        let fourth = loops.fourth;
-        let exact = body.exact;
-        let at = numbers::number(course.at);
-        let len = numbers::number(course.len);
-        let depth = numbers::number(loops.depth);
-        let a = numbers::number(first.start);
-        let b = numbers::number(second.start);
-        let c = numbers::number(third.start);
-        let d = numbers::number(fourth.start);
-        *wide = [exact, at, len, depth, a, b, c, d];
+        *wide = [
+            self.core.body.exact,
+            course.at as u64,
+            course.len as u64,
+            loops.depth as u64,
+            loops.first.start as u64,
+            loops.second.start as u64,
+            loops.third.start as u64,
+            loops.fourth.start as u64,
+        ];
     }
 
     fn put_words(self, words: &mut [u32; 26])
         ensures { words.new ≡ words_of self }
     {
-        let core = self.core;
-        let body = core.body;
-        let course = core.course;
+        let Core { body, course } = self.core;
         let s = body.settings;
         let d = s.detection;
         let loops = course.loops;
-        let state = course.state;
-        let first = loops.first;
-        let second = loops.second;
-        let third = loops.third;
-        let fourth = loops.fourth;
-        let g = Progress::of(state);
+        let g = Progress::from(course.state);
         *words = [
             body.plunger,
             s.top,
@@ -284,10 +254,10 @@ impl Pose {
             d.most,
             d.mode,
             d.interval,
-            first.passes,
-            second.passes,
-            third.passes,
-            fourth.passes,
+            loops.first.passes,
+            loops.second.passes,
+            loops.third.passes,
+            loops.fourth.passes,
             course.misread,
             g.from,
             g.goal,
@@ -301,14 +271,14 @@ impl Pose {
     fn put_small(self, small: &mut [u8; 4])
         ensures { small.new ≡ small_of self }
     {
-        let core = self.core;
-        let body = core.body;
-        let course = core.course;
-        let state = course.state;
-        let initialised = numbers::flag_byte(body.initialised);
-        let tip = numbers::flag_byte(self.tip);
-        let g = Progress::of(state);
-        *small = [initialised, g.tag, course.error, tip];
+        let Core { body, course } = self.core;
+        let g = Progress::from(course.state);
+        *small = [
+            u8::from(body.initialised),
+            g.tag,
+            course.error,
+            u8::from(self.tip),
+        ];
     }
 
     // And written.

@@ -1,44 +1,19 @@
 // The receiver's numbers: a line as the host's memory holds it.
 ghost use Rattle.std.specs.Prelude.{◌≡◌};
-ghost use Rattle.image.specs.Receiver.{bare, headed, held_dt, held_oem, held_of, head_in, line_by, same_held};
+ghost use Rattle.image.specs.Receiver.{headed, held_of, head_in, line_by};
 
-use crate::numbers;
 use line::Line;
 use line::dt::Dt;
 use line::oem::{Head, Oem};
 
-// Which line it is, and what goes with it; what doesn't is 0.
-#[derive(Clone, Copy)]
+// Which line it is, and what goes with it; what doesn't is 0. The tag is a number, since it stands in the memory of a host in C.
+#[derive(Clone, Copy, Default, PartialEq, Eq)]
 pub struct Held {
     pub tag: u8,
     pub owner: u8,
     pub sequence: u8,
     pub sum: u8,
     pub count: u32,
-}
-
-fn bare(tag: u8) -> Held
-    ensures { result ≡ bare tag 0 0 }
-{
-    Held {
-        tag,
-        owner: 0,
-        sequence: 0,
-        sum: 0,
-        count: 0,
-    }
-}
-
-fn owned(tag: u8, owner: u8, count: u32) -> Held
-    ensures { result ≡ bare tag owner count }
-{
-    Held {
-        tag,
-        owner,
-        sequence: 0,
-        sum: 0,
-        count,
-    }
 }
 
 fn headed(tag: u8, head: Head, count: u32) -> Held
@@ -53,39 +28,36 @@ fn headed(tag: u8, head: Head, count: u32) -> Held
     }
 }
 
-fn of_dt(dt: Dt) -> Held
-    ensures { result ≡ held_dt dt }
-{
-    match dt {
-        Dt::Outside => bare(0),
-        Dt::Started => bare(1),
-        Dt::Collecting(address, n) => owned(2, address, n),
-    }
-}
+impl From<Line> for Held {
+    ghost from_gives = { λ l h. h ≡ held_of l };
 
-fn of_oem(oem: Oem) -> Held
-    ensures { result ≡ held_oem oem }
-{
-    match oem {
-        Oem::Outside => bare(3),
-        Oem::Started => bare(4),
-        Oem::Addressed(address) => owned(5, address, 0),
-        Oem::Collecting(head, n) => headed(6, head, n),
-        Oem::Ended(head, n) => headed(7, head, n),
+    fn from(line: Line) -> Held
+        ensures { result ≡ held_of line }
+    {
+        let rest = Held::default();
+        match line {
+            Line::Dt(Dt::Outside) => Held { tag: 0, ..rest },
+            Line::Dt(Dt::Started) => Held { tag: 1, ..rest },
+            Line::Dt(Dt::Collecting(owner, count)) => Held {
+                tag: 2,
+                owner,
+                count,
+                ..rest
+            },
+            Line::Oem(Oem::Outside) => Held { tag: 3, ..rest },
+            Line::Oem(Oem::Started) => Held { tag: 4, ..rest },
+            Line::Oem(Oem::Addressed(owner)) => Held {
+                tag: 5,
+                owner,
+                ..rest
+            },
+            Line::Oem(Oem::Collecting(head, count)) => headed(6, head, count),
+            Line::Oem(Oem::Ended(head, count)) => headed(7, head, count),
+        }
     }
 }
 
 impl Held {
-    // A line, written.
-    pub fn of(line: Line) -> Held
-        ensures { result ≡ held_of line }
-    {
-        match line {
-            Line::Dt(dt) => of_dt(dt),
-            Line::Oem(oem) => of_oem(oem),
-        }
-    }
-
     fn head(self) -> Head
         ensures { result ≡ head_in self }
     {
@@ -95,34 +67,25 @@ impl Held {
             sum: self.sum,
         }
     }
+}
 
-    // The line that the tag tells; one that is none of the eight tells the first.
-    pub fn line(self) -> Line
-        ensures { result ≡ line_by self }
+// The line that the tag tells; one that is none of the eight tells the first.
+impl From<Held> for Line {
+    ghost from_gives = { λ h l. l ≡ line_by h };
+
+    #[tactic(auto, unfolding(crate::specs::Receiver::line_at))]
+    fn from(held: Held) -> Line
+        ensures { result ≡ line_by held }
     {
-        let n = self.count;
-        let head = self.head();
-        let tag = self.tag;
-        match tag {
+        match held.tag {
             1 => Line::Dt(Dt::Started),
-            2 => Line::Dt(Dt::Collecting(self.owner, n)),
+            2 => Line::Dt(Dt::Collecting(held.owner, held.count)),
             3 => Line::Oem(Oem::Outside),
             4 => Line::Oem(Oem::Started),
-            5 => Line::Oem(Oem::Addressed(self.owner)),
-            6 => Line::Oem(Oem::Collecting(head, n)),
-            7 => Line::Oem(Oem::Ended(head, n)),
+            5 => Line::Oem(Oem::Addressed(held.owner)),
+            6 => Line::Oem(Oem::Collecting(held.head(), held.count)),
+            7 => Line::Oem(Oem::Ended(held.head(), held.count)),
             _ => Line::Dt(Dt::Outside),
         }
-    }
-
-    // Number by number.
-    pub fn same(self, other: Held) -> bool
-        ensures { result ≡ same_held self other }
-    {
-        let count = self.count == other.count;
-        let sum = numbers::same_byte(self.sum, other.sum, count);
-        let sequence = numbers::same_byte(self.sequence, other.sequence, sum);
-        let owner = numbers::same_byte(self.owner, other.owner, sequence);
-        numbers::same_byte(self.tag, other.tag, owner)
     }
 }

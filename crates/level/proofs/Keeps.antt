@@ -4,10 +4,10 @@ use Prim.Native.Nat.{ℕ, ◌+◌, min, ◌≤◌}
 use native.Mathlib.Omega.{arith}
 use borrow.Author.Tests.{eqb-false}
 use lib.Dec.{eqb}
+use Rattle.std.specs.Prelude.{Option}
 use Rattle.basics.proofs.Choice.{by}
 use Rattle.settings.specs.declared.Detection.{Detection}
 use Rattle.settings.proofs.Motion.{under_way}
-use Rattle.level.specs.declared.Pressure.{Pressure}
 use Rattle.level.specs.declared.Search.{Search}
 use Rattle.level.specs.declared.Finding.TheVariants.{On}
 use Rattle.level.specs.Level.{begun, later_of, counted_of, left_of, limit_of, gone_in, plunger_in, finding_of, SearchOk}
@@ -26,12 +26,12 @@ slow_enough : (d : Detection) (s : Search) → 1000 ≤ d.speed → s.from ≤ 4
 unfolding gone_in
 slow_enough d s slow h = under_way s.ticks d.speed (limit_of d s.from) slow (short d s.from h)
 
-counted_ok : (d : Detection) (s : Search) (p : Pressure) → SearchOk s → s.ticks + 1 ≤ 44000 → SearchOk (counted_of (count_at d (later_of s) p) (later_of s))
+counted_ok : (d : Detection) (s : Search) (p : Option ℕ) → SearchOk s → s.ticks + 1 ≤ 44000 → SearchOk (counted_of (count_at d (later_of s) p) (later_of s))
 counted_ok d s p ok h =
     let c = ok.count in
     record { from = ok.from; ticks = h; count = by (λ (n : ℕ). n ≤ s.ticks + 1) (is_far d s.zero p) (λ e. omega arith) (λ e. omega arith) }
 
-pub a_search_that_goes_on : (d : Detection) (s t : Search) (p : Pressure) → 1000 ≤ d.speed → SearchOk s → finding_of d (later_of s) p ≡ On t → SearchOk t
+pub a_search_that_goes_on : (d : Detection) (s t : Search) (p : Option ℕ) → 1000 ≤ d.speed → SearchOk s → finding_of d (later_of s) p ≡ On t → SearchOk t
 a_search_that_goes_on d s t p slow ok e =
     let on = found_shows d (later_of s) p (On t) e in
     rw on.next (counted_ok d s p ok (slow_enough d (later_of s) slow ok.from on.under_way))

@@ -6,14 +6,13 @@ use Prim.Native.Nat.{ℕ, zero, suc, ◌+◌, max, ◌≤◌, ◌<◌}
 use native.Mathlib.Omega.{arith}
 use lib.Dec.{eqb}
 use lib.ListN.{length, drop}
-use Rattle.std.specs.Prelude.{if◌then◌else◌}
+use Rattle.std.specs.Prelude.{if◌then◌else◌, Option}
 use Rattle.basics.specs.Exactly.{Exactly}
 use Rattle.basics.proofs.Choice.{by}
 use Rattle.settings.specs.declared.Detection.{Detection}
 use Rattle.settings.specs.Limits.{Detected}
 use Rattle.settings.specs.Units.{ticks_for}
 use Rattle.settings.proofs.Motion.{distance_gone_never_falls, distance_gone_is_at_most_the_distance, movement_arrives}
-use Rattle.level.specs.declared.Pressure.{Pressure}
 use Rattle.level.specs.declared.Search.{Search}
 use Rattle.level.specs.declared.Finding.TheVariants.{TooMuch, Found, Missed, On}
 use Rattle.level.specs.Level.{later_of, limit_of, gone_in, plunger_in, finding_of}
@@ -23,7 +22,7 @@ use Rattle.level.proofs.Ends.{count_at, found_shows, found_by, missed_by, too_mu
 use Rattle.level.proofs.Keeps.{the_plunger_stays_in_travel}
 
 -- as many readings were far, one after the other, as the count says, and no more
-abbrev Counted : Detection → ℕ → ℕ → List Pressure → Type 0
+abbrev Counted : Detection → ℕ → ℕ → List (Option ℕ) → Type 0
 Counted d z count ps = (n : ℕ) → Exactly (n ≤ count) (LastFar d z n ps)
 
 none_yet : (d : Detection) (z : ℕ) → Counted d z 0 []
@@ -31,7 +30,7 @@ none_yet d z zero = record { only = λ h. tt; always = λ h. omega arith }
 none_yet d z (suc n) = record { only = λ h. absurd (omega arith); always = λ h. absurd h }
 
 -- a far reading counts, any other ends the row
-module _ (d : Detection) (z count : ℕ) (p : Pressure) (ps : List Pressure) (before : Counted d z count ps) where
+module _ (d : Detection) (z count : ℕ) (p : Option ℕ) (ps : List (Option ℕ)) (before : Counted d z count ps) where
   far_counts : is_far d z p ≡ true → Counted d z (count + 1) (p ∷ ps)
   far_counts e zero = record { only = λ h. tt; always = λ h. omega arith }
   far_counts e (suc n) = record { only = λ h. (e, (before n).only (omega arith)); always = λ h. omega (arith, (before n).always h.1) }
@@ -44,7 +43,7 @@ module _ (d : Detection) (z count : ℕ) (p : Pressure) (ps : List Pressure) (be
   counted_on = by (λ (n : ℕ). Counted d z n (p ∷ ps)) (is_far d z p) far_counts near_ends
 
 -- what holds of a search that has gone on through these readings
-record Gone (d : Detection) (from z : ℕ) (ps : List Pressure) (s : Search) : Type 0 where
+record Gone (d : Detection) (from z : ℕ) (ps : List (Option ℕ)) (s : Search) : Type 0 where
   began : s.from ≡ from
   zeroed : s.zero ≡ z
   ticks : s.ticks ≡ length ps
@@ -62,7 +61,7 @@ soon d s moving under_way =
     omega arith
 
 module _ (d : Detection) (from z : ℕ) where
-  gone : (ps : List Pressure) (s : Search) → Through d from z ps s → Gone d from z ps s
+  gone : (ps : List (Option ℕ)) (s : Search) → Through d from z ps s → Gone d from z ps s
   gone x u begins = record { began = refl; zeroed = refl; ticks = refl; counted = none_yet d z }
   gone x u (goes_on p ps s t th e) =
       let g = gone ps s th in
@@ -70,12 +69,12 @@ module _ (d : Detection) (from z : ℕ) where
       (record { began = g.began; zeroed = g.zeroed; ticks = omega (arith, g.ticks); counted = counted_on d s.zero s.count p ps g.counted })
 
   -- the count reaches as many as p1 asks for where as many were far
-  asked : (p : Pressure) (ps : List Pressure) (s : Search) → Gone d from z ps s → Exactly (asked_by d ≤ count_at d (later_of s) p) (LastFar d z (asked_by d) (p ∷ ps))
+  asked : (p : Option ℕ) (ps : List (Option ℕ)) (s : Search) → Gone d from z ps s → Exactly (asked_by d ≤ count_at d (later_of s) p) (LastFar d z (asked_by d) (p ∷ ps))
   asked p ps s g =
       subst (λ (y : ℕ). Exactly (asked_by d ≤ count_at d (later_of s) p) (LastFar d y (asked_by d) (p ∷ ps))) g.zeroed
       (counted_on d s.zero s.count p ps g.counted (asked_by d))
 
-  found : 1 ≤ d.duration → (p : Pressure) (ps : List Pressure) (s : Search) → Gone d from z ps s → Exactly (finding_of d (later_of s) p ≡ Found) (LastFar d z (asked_by d) (p ∷ ps))
+  found : 1 ≤ d.duration → (p : Option ℕ) (ps : List (Option ℕ)) (s : Search) → Gone d from z ps s → Exactly (finding_of d (later_of s) p ≡ Found) (LastFar d z (asked_by d) (p ∷ ps))
   found some p ps s g =
       let far = asked p ps s g in
       record {
@@ -83,7 +82,7 @@ module _ (d : Detection) (from z : ℕ) where
         always = λ l. found_by d (later_of s) p some (omega (arith, far.always l));
       }
 
-  missed : (p : Pressure) (ps : List Pressure) (s : Search) → Gone d from z ps s → Exactly (finding_of d (later_of s) p ≡ Missed) (MissedIn d from z p ps s)
+  missed : (p : Option ℕ) (ps : List (Option ℕ)) (s : Search) → Gone d from z ps s → Exactly (finding_of d (later_of s) p ≡ Missed) (MissedIn d from z p ps s)
   missed p ps s g =
       let far = asked p ps s g in
       record {
@@ -95,12 +94,12 @@ module _ (d : Detection) (from z : ℕ) where
             missed_by d (later_of s) p (record { inside = m.inside; few = omega arith; arrived = m.no_way_left ∙ sym (ap (limit_of d) g.began) });
       }
 
-  no_earlier : (ps : List Pressure) (s : Search) → Through d from z ps s → (i : ℕ) → i < length ps → LastFar d z (asked_by d) (drop i ps) → ⊥
+  no_earlier : (ps : List (Option ℕ)) (s : Search) → Through d from z ps s → (i : ℕ) → i < length ps → LastFar d z (asked_by d) (drop i ps) → ⊥
   no_earlier x u begins i h l = omega arith
   no_earlier x u (goes_on p ps s t th e) zero h l = omega (arith, (found_shows d (later_of s) p (On t) e).few, (asked p ps s (gone ps s th)).always l)
   no_earlier x u (goes_on p ps s t th e) (suc i) h l = no_earlier ps s th i (omega arith) l
 
-  ends : 1000 ≤ d.speed → (ps : List Pressure) (s : Search) → Through d from z ps s → length ps < max 1 (ticks_for d.speed (limit_of d from))
+  ends : 1000 ≤ d.speed → (ps : List (Option ℕ)) (s : Search) → Through d from z ps s → length ps < max 1 (ticks_for d.speed (limit_of d from))
   ends moving x u begins = omega arith
   ends moving x u (goes_on p ps s t th e) =
       let g = gone ps s th in

@@ -1,20 +1,18 @@
 -- 02, W-206, "Liquid level detection" (004, 6.1): what a reading is, and a tick of the search.
-use Rattle.std.specs.Prelude.{ℕ, ◌+◌, ◌-◌, ◌*◌, min, ◌≤◌, Bool, ltb, leb, eqb, ℤ, pos, negsuc, if◌then◌else◌}
+use Rattle.std.specs.Prelude.{ℕ, ◌+◌, ◌-◌, ◌*◌, min, ◌≤◌, Bool, ltb, leb, eqb, ℤ, pos, negsuc, if◌then◌else◌, None, Option, Some}
 use Rattle.settings.specs.declared.Detection.{Detection}
 use Rattle.settings.specs.declared.Quantity.TheVariants.{Increments}
 use Rattle.settings.specs.Limits.{range_of}
 use Rattle.settings.specs.Units.{gone_of}
-use Rattle.level.specs.declared.Pressure.{Pressure}
-use Rattle.level.specs.declared.Pressure.TheVariants.{Beyond, Counts}
 use Rattle.level.specs.declared.Search.{Search}
 use Rattle.level.specs.declared.Sought.{Sought}
 use Rattle.level.specs.declared.Finding.{Finding}
 use Rattle.level.specs.declared.Finding.TheVariants.{TooMuch, Found, Missed, On}
 
 -- "a signed pressure reading", "outside -32767 to 32767" or not; inside it is counted from -32767 on, 0 to 65534, and two readings are as far apart as their counts
-unfoldable pub pressure_of : ℤ → Pressure
-pressure_of (pos n) = if leb n 32767 then Counts (32767 + n) else Beyond
-pressure_of (negsuc n) = if leb n 32766 then Counts (32766 - n) else Beyond  -- negsuc n is -1 - n
+unfoldable pub pressure_of : ℤ → Option ℕ
+pressure_of (pos n) = if leb n 32767 then Some (32767 + n) else None
+pressure_of (negsuc n) = if leb n 32766 then Some (32766 - n) else None  -- negsuc n is -1 - n
 
 unfoldable pub apart : ℕ → ℕ → ℕ
 apart a b = if ltb a b then b - a else a - b
@@ -60,12 +58,12 @@ counted_as d s n =
     else On (counted_of n s)
 
 -- "5 for a reading outside"
-unfoldable pub finding_of : Detection → Search → Pressure → Finding
-finding_of d s Beyond = TooMuch
-finding_of d s (Counts r) = counted_as d s (count_with d s r)
+unfoldable pub finding_of : Detection → Search → Option ℕ → Finding
+finding_of d s None = TooMuch
+finding_of d s (Some r) = counted_as d s (count_with d s r)
 
 -- a tick: "the plunger moves before the reading is judged"
-unfoldable pub sought_of : Detection → Search → Pressure → Sought
+unfoldable pub sought_of : Detection → Search → Option ℕ → Sought
 sought_of d s p = record { plunger = plunger_in d (later_of s); finding = finding_of d (later_of s) p }
 
 -- what holds of every search that goes on; the slowest takes 44000 ticks

@@ -6,13 +6,6 @@ ghost use Rattle.level.specs.Level.{pressure_of, apart, begun, later_of, left_of
 
 use settings::{Detection, Settings, units};
 
-// A reading: outside -32767 to 32767, or so many counts above -32767.
-#[derive(Clone, Copy)]
-pub enum Pressure {
-    Beyond,
-    Counts(u32),
-}
-
 // A search: where it began, the zero, its ticks, and how many readings in a row were far from the zero.
 #[derive(Clone, Copy)]
 pub struct Search {
@@ -38,60 +31,43 @@ pub struct Sought {
     pub finding: Finding,
 }
 
-// What a reading is.
-pub fn felt(reading: i32) -> Pressure
+// What a reading is: how far it lies above -32767, or none outside -32767 to 32767.
+#[tactic(auto, unfolding(crate::specs::Level::pressure_of))]
+pub fn felt(reading: i32) -> Option<u32>
     ensures { result ≡ pressure_of reading }
 {
-    if reading < -32_767 {
-        return Pressure::Beyond;
+    if reading < -32_767 || 32_767 < reading {
+        return None;
     }
-    if 32_767 < reading {
-        return Pressure::Beyond;
-    }
-    let counts = reading + 32_767;
-    Pressure::Counts(counts as u32)
-}
-
-fn distance(a: u32, b: u32) -> u32
-    ensures { result ≡ apart a b }
-{
-    if a < b {
-        return b - a;
-    }
-    a - b
+    Some((reading + 32_767) as u32)
 }
 
 // The travel left, up or down.
+#[tactic(auto, unfolding(crate::specs::Level::left_of))]
 fn left(d: Detection, from: u32) -> u32
     ensures { result ≡ left_of d «from» }
 {
     if d.mode == 1 {
-        return from;
+        from
+    } else {
+        Settings::INCREMENTS_MOST.saturating_sub(from)
     }
-    if from <= Settings::INCREMENTS_MOST {
-        return Settings::INCREMENTS_MOST - from;
-    }
-    0
 }
 
 // How far a search may go.
+#[tactic(auto, unfolding(crate::specs::Level::limit_of))]
 fn limit(d: Detection, from: u32) -> u32
     ensures { result ≡ limit_of d «from» }
 {
-    let left = left(d, from);
-    let most = d.most;
-    if most < left {
-        return most;
-    }
-    left
+    d.most.min(left(d, from))
 }
 
 // Whether a reading is further than p0 from the zero.
+#[tactic(auto, unfolding(crate::specs::Level::far, crate::specs::Level::apart))]
 fn is_far(d: Detection, zero: u32, reading: u32) -> bool
     ensures { result ≡ far d zero reading }
 {
-    let by = distance(reading, zero);
-    d.threshold < by
+    d.threshold < reading.abs_diff(zero)
 }
 
 impl Search {
@@ -111,32 +87,34 @@ impl Search {
         requires { SearchOk self }
         ensures { result ≡ later_of self }
     {
-        let mut next = self;
-        next.ticks = self.ticks + 1;
-        next
+        Search {
+            ticks: self.ticks + 1,
+            ..self
+        }
     }
 
+    #[tactic(auto, unfolding(crate::specs::Level::gone_in))]
     fn gone(self, d: Detection) -> u32
         ensures { result ≡ gone_in d self }
     {
-        let limit = limit(d, self.from);
-        units::gone(self.ticks, d.speed, limit)
+        units::gone(self.ticks, d.speed, limit(d, self.from))
     }
 
     // Where the plunger is by now.
+    #[tactic(auto, using(crate::proofs::Way::gone_down, crate::proofs::Way::gone_up), unfolding(crate::specs::Level::plunger_in))]
     fn plunger(self, d: Detection) -> u32
         requires { self.from ≤ 44000 }
         ensures { result ≡ plunger_in d self }
     {
-        let gone = self.gone(d);
-        let from = self.from;
         if d.mode == 1 {
-            return from - gone;
+            self.from - self.gone(d)
+        } else {
+            self.from + self.gone(d)
         }
-        from + gone
     }
 
     // The count after a reading.
+    #[tactic(auto, unfolding(crate::specs::Level::count_with))]
     fn count_with(self, d: Detection, reading: u32) -> u32
         requires { self.count ≤ 44000 }
         ensures { result ≡ count_with d self reading }
@@ -148,6 +126,7 @@ impl Search {
     }
 
     // What a count finds.
+    #[tactic(auto, unfolding(crate::specs::Level::counted_as))]
     fn counted(self, d: Detection, n: u32) -> Finding
         requires { n ≤ 44001 }
         ensures { result ≡ counted_as d self n }
@@ -155,35 +134,34 @@ impl Search {
         if d.duration <= 10 * n {
             return Finding::Found;
         }
-        let gone = self.gone(d);
-        let limit = limit(d, self.from);
-        if gone == limit {
+        if self.gone(d) == limit(d, self.from) {
             return Finding::Missed;
         }
-        let mut next = self;
-        next.count = n;
-        Finding::On(next)
+        Finding::On(Search { count: n, ..self })
     }
 
     // What a reading finds.
-    fn find(self, d: Detection, pressure: Pressure) -> Finding
+    #[tactic(auto, unfolding(crate::specs::Level::finding_of, crate::specs::Level::count_with))]
+    fn find(self, d: Detection, pressure: Option<u32>) -> Finding
         requires { self.count ≤ 44000 }
         ensures { result ≡ finding_of d self pressure }
     {
         match pressure {
-            Pressure::Beyond => Finding::TooMuch,
-            Pressure::Counts(reading) => self.counted(d, self.count_with(d, reading)),
+            None => Finding::TooMuch,
+            Some(reading) => self.counted(d, self.count_with(d, reading)),
         }
     }
 
     // A tick of the search.
-    pub fn onward(self, d: Detection, pressure: Pressure) -> Sought
+    #[tactic(auto, unfolding(crate::specs::Level::sought_of))]
+    pub fn onward(self, d: Detection, pressure: Option<u32>) -> Sought
         requires { SearchOk self }
         ensures { result ≡ sought_of d self pressure }
     {
         let now = self.later();
-        let plunger = now.plunger(d);
-        let finding = now.find(d, pressure);
-        Sought { plunger, finding }
+        Sought {
+            plunger: now.plunger(d),
+            finding: now.find(d, pressure),
+        }
     }
 }

@@ -1,15 +1,14 @@
 -- Laws of answers, one for each return of the code.
 use mathlib.Core.Path.{◌≡◌, sym, ap, ◌∙◌}
 use mathlib.Core.List.{List, [], ◌∷◌, ◌++◌}
-use Prim.Native.Nat.{ℕ, ◌+◌, ◌≤◌, ◌<◌}
+use Prim.Native.Nat.{ℕ, ◌+◌, ◌≤◌}
 use native.Mathlib.Omega.{arith}
 use lib.Bits.{bit_xor}
 use lib.ListN.{length, take, drop, length-append}
 use lib.Seq.{take_at}
 use mir.Syntax.{w64}
 use mir.Val.{Fits}
-use Rattle.basics.specs.declared.Put.{Put}
-use Rattle.basics.specs.declared.Put.TheVariants.{Bytes, NoRoom}
+use Rattle.std.specs.Prelude.{None, Option, Some}
 use Rattle.basics.specs.Bytes.{zero_digit}
 use Rattle.basics.specs.Lay.{Laid, over}
 use Rattle.basics.proofs.Lists.{front_counted}
@@ -19,7 +18,6 @@ use Rattle.basics.proofs.Rules.{tests}
 use Rattle.line.specs.declared.Framing.{Framing}
 use Rattle.line.specs.declared.Framing.TheVariants.{Dt, Oem}
 use Rattle.line.specs.declared.Report.{Report}
-use Rattle.line.specs.declared.Said.TheVariants.{Answer, S1}
 use Rattle.line.specs.Bytes.{sum_from, sum_of}
 use Rattle.line.specs.Dt.{cr}
 use Rattle.line.specs.Oem.{etx}
@@ -27,14 +25,11 @@ use Rattle.line.specs.Answer.{lf, start_of, tail_of, report_of, answer_of, Close
 use Rattle.line.proofs.Lines.{sum_append}
 use Rattle.line.proofs.Answers.{report_short, tail_short}
 
--- what begins an answer, and what ends it
-pub start_case : (f j : Framing) (r : ℕ) → f ≡ j → r ≡ start_of j → r ≡ start_of f
-start_case f j r p e = rw p e
-
-pub counted : (at : ℕ) (buf : List ℕ) → at + 3 ≤ length buf → at ≡ length (take at buf)
+-- what ends an answer
+counted : (at : ℕ) (buf : List ℕ) → at + 3 ≤ length buf → at ≡ length (take at buf)
 counted at buf room = front_counted at buf (omega arith)
 
-module _ (f : Framing) (at : ℕ) (buf after : List ℕ) (r : Put) (room : at + 3 ≤ length buf) where
+module _ (f : Framing) (at : ℕ) (buf after : List ℕ) (r : Option ℕ) (room : at + 3 ≤ length buf) where
   pub closes_dt : f ≡ Dt → Laid (etx ∷ cr ∷ lf ∷ []) at buf r after → Closed f at buf (at + 3) after
   unfolding tail_of
   closes_dt p l = rw p (record { end = omega arith; bytes = (laid l (omega arith)).bytes })
@@ -45,11 +40,8 @@ module _ (f : Framing) (at : ℕ) (buf after : List ℕ) (r : Put) (room : at + 
       let sum : sum_of (take at buf ++ (etx ∷ [])) ≡ bit_xor s etx = sum_append 0 (take at buf) (etx ∷ []) ∙ rw e in
       rw p (record { end = omega arith; bytes = (laid l (omega arith)).bytes ∙ ap (λ (x : ℕ). over (etx ∷ x ∷ []) at buf) (sym sum) })
 
-pub short : (f : Framing) (status : ℕ) (report : Report) (buf : List ℕ) → length buf < 32 → Answered f status report buf S1 buf
-short f status report buf h = record { said = simp tests; left = simp tests }
-
 module _
-    (f : Framing) (status start : ℕ) (report : Report) (before one two : List ℕ) (r s : Put)
+    (f : Framing) (status start : ℕ) (report : Report) (before one two : List ℕ) (r s : Option ℕ)
     (d : Laid (report_of report) 3 one s two) (h : Laid (start ∷ zero_digit ∷ status ∷ []) 0 before r one) (b : start ≡ start_of f) (room : 32 ≤ length before)
   where
     abbrev head : List ℕ
@@ -64,10 +56,10 @@ module _
     middle : Lay (report_of report) 3 one s two
     middle = laid d (omega (arith, long, report_short report))
 
-    pub never : s ≡ NoRoom → Answered f status report before S1 two
+    pub never : s ≡ None → Answered f status report before None two
     never e = let n = middle.count in let z : ◌≡◌ {A = ℕ} 0 1 = cc in absurd (omega arith)
 
-    module _ (size : ℕ) (e : s ≡ Bytes size) where
+    module _ (size : ℕ) (e : s ≡ Some size) where
       size_is : size ≡ length (report_of report)
       size_is = let n = middle.count in cc
 
@@ -90,11 +82,11 @@ module _
       unfolding over
       front = rw so_far (take_at said (drop (0 + length said) before) (3 + size) (omega (arith, size_is)))
 
-      pub whole : (end : ℕ) (three : List ℕ) → Closed f (3 + size) two end three → Answered f status report before (Answer end) three
+      pub whole : (end : ℕ) (three : List ℕ) → Closed f (3 + size) two end three → Answered f status report before (Some end) three
       unfolding answer_of
       whole end three c =
           let few = tail_short f said in
           let bytes : three ≡ over (said ++ tail_of f said) 0 before
           = c.bytes ∙ rw (front, at_is, so_far) (over_over said (tail_of f said) 0 before (omega arith)) in
           let count : end ≡ length (said ++ tail_of f said) = c.end ∙ rw front (omega (arith, size_is, length-append said (tail_of f said))) in
-          record { said = simp tests (ap Answer count); left = simp tests bytes }
+          record { said = simp tests (ap Some count); left = simp tests bytes }

@@ -5,7 +5,7 @@ use mathlib.Core.List.{List, [], ◌∷◌, ◌++◌}
 use Prim.Native.Nat.{ℕ, zero, suc, ◌+◌, ◌*◌, ◌/◌, ◌%◌, ◌^◌, ◌≤◌}
 use native.Mathlib.Omega.{arith}
 use lib.ListN.{length, length-append}
-use Rattle.std.specs.Prelude.{if◌then◌else◌}
+use Rattle.std.specs.Prelude.{if◌then◌else◌, Option}
 use Rattle.basics.specs.Bytes.{zero_digit, point}
 use Rattle.decimal.specs.Digits.{digits_of, last_digits, fixed_of}
 use Rattle.decimal.proofs.Digits.{length_last}
@@ -15,7 +15,6 @@ use Rattle.line.specs.declared.Framing.TheVariants.{Dt, Oem}
 use Rattle.line.specs.Bytes.{sum_from, sum_of}
 use Rattle.line.specs.declared.Report.{Report}
 use Rattle.line.specs.declared.Report.TheVariants.{Nothing, Character, Whole, Tenths, Thousandths}
-use Rattle.line.specs.declared.Said.{Said}
 use Rattle.line.specs.Answer.{start_of, tail_of, status_of, report_of, answer_of, Answered}
 
 pub fixed_short : (d n : ℕ) → length (fixed_of d n) ≤ 11 + d
@@ -48,7 +47,7 @@ answer_fits f status report =
 
 -- one answer, one buffer: the contract allows no other
 pub answered_once :
-    (f : Framing) (status : ℕ) (report : Report) (before : List ℕ) (r r' : Said) (after after' : List ℕ) →
+    (f : Framing) (status : ℕ) (report : Report) (before : List ℕ) (r r' : Option ℕ) (after after' : List ℕ) →
     Answered f status report before r after → Answered f status report before r' after' → (r ≡ r') × (after ≡ after')
 answered_once f status report before r r' after after' x y = (x.said ∙ sym y.said, x.left ∙ sym y.left)
 

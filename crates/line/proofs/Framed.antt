@@ -26,6 +26,7 @@ use Rattle.line.specs.declared.oem.Oem.TheVariants as O
 use Rattle.line.specs.Bytes.{printable, sum_from}
 use Rattle.line.specs.Dt as Dt
 use Rattle.line.specs.Dt.{slash, cr}
+use Rattle.line.specs.Heard.{waits}
 use Rattle.line.specs.Oem as Oem
 use Rattle.line.specs.Oem.{stx, etx, sequenced, head_of, with_byte}
 use Rattle.line.specs.Wire.{fresh_line, framing_of, hear_of, keep_of, Received, hears, feed, completes, frames_of, Form, dt, oem, formed, data_byte, front, last_byte, framed, sum_due, Sendable, Hears}
@@ -70,7 +71,7 @@ dt_along a [] = refl
 dt_along a (b ∷ bs) = dt_along a bs
 
 -- OEM: 02h starts a frame, where no sum is due; an address, a sequence and data are of 20h to 7Eh
-oem_start : (o : OemState) → sum_due (Oem o) ≡ false → Oem.hear_of o stx ≡ Oem.waits O.Started
+oem_start : (o : OemState) → sum_due (Oem o) ≡ false → Oem.hear_of o stx ≡ waits O.Started
 unfolding Oem.hear_of Oem.header_of Oem.collect_of
 oem_start O.Outside e = refl
 oem_start O.Started e = refl
@@ -81,7 +82,7 @@ oem_start (O.Ended h n) e = absurd (false≢true (sym e))
 pub no_stx : (b : ℕ) → printable b ≡ true → eqb b stx ≡ false
 no_stx b p = ne_eqb b stx (no_low b stx p (omega arith))
 
-oem_header : (b : ℕ) (next : OemState) → printable b ≡ true → Oem.header_of b next ≡ Oem.waits next
+oem_header : (b : ℕ) (next : OemState) → printable b ≡ true → Oem.header_of b next ≡ waits next
 unfolding Oem.header_of
 oem_header b next p = rw (no_stx b p, p)
 

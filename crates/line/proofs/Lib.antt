@@ -1,4 +1,3 @@
-pub mod OemSteps
 pub mod Lines
 pub mod Answers
 pub mod Answering

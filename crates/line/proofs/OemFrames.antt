@@ -9,14 +9,15 @@ use Rattle.std.specs.Prelude.{if◌then◌else◌}
 use Rattle.basics.specs.Bytes.{every}
 use Rattle.basics.proofs.Choice.{by}
 use Rattle.basics.proofs.Digits.{and_both}
+use Rattle.line.specs.declared.Line.{Line}
 use Rattle.line.specs.declared.Line.TheVariants.{Oem}
 use Rattle.line.specs.declared.Deed.TheVariants.{Nothing}
 use Rattle.line.specs.declared.Heard.{Heard}
 use Rattle.line.specs.declared.oem.Head.{Head}
 use Rattle.line.specs.declared.oem.Oem.{Oem as OemState}
 use Rattle.line.specs.declared.oem.Oem.TheVariants as O
-use Rattle.line.specs.declared.oem.Step.{Step as OemStep}
 use Rattle.line.specs.Bytes.{printable}
+use Rattle.line.specs.Heard.{waits}
 use Rattle.line.specs.Oem as Oem
 use Rattle.line.specs.Oem.{stx, etx}
 use Rattle.line.specs.Wire.{hear_of, oem, data_byte, front, last_byte, sum_due, begun}
@@ -49,14 +50,14 @@ ignored f (b ∷ bs) e =
     let d = and_both (printable b) (every printable bs) e in
     one_more _ _ (Oem O.Outside) b _ (outside_ignores b (no_stx b d.0)) (ignored f bs d.1)
 
-lifted : OemStep → Heard
-lifted x = record { line = Oem x.oem; deed = x.deed }
+lifted : Heard OemState → Heard Line
+lifted x = record { line = Oem x.line; deed = x.deed }
 
 outside_hears : (b : ℕ) → hear_of (Oem O.Outside) b ≡ record { line = begun b; deed = Nothing }
 unfolding hear_of Oem.hear_of lifted
 outside_hears b = go (eqb b stx)
   where
-    go : (t : Bool) → lifted (if t then Oem.waits O.Started else Oem.waits O.Outside) ≡ record { line = if t then Oem O.Started else Oem O.Outside; deed = Nothing }
+    go : (t : Bool) → lifted (if t then waits O.Started else waits O.Outside) ≡ record { line = if t then Oem O.Started else Oem O.Outside; deed = Nothing }
     go true = refl
     go false = refl
 
@@ -71,4 +72,4 @@ the_rest_is_lost a s ds f p g q =
 -- the sum that is due, whatever it is, leaves the receiver outside
 pub after_a_sum : (h : Head) (n b : ℕ) → (hear_of (Oem (O.Ended h n)) b).line ≡ Oem O.Outside
 unfolding hear_of Oem.hear_of Oem.judged_of lifted
-after_a_sum h n b = by (λ (x : OemStep). (lifted x).line ≡ Oem O.Outside) (eqb b h.sum && Oem.sequenced h.sequence) (λ e. refl) (λ e. refl)
+after_a_sum h n b = by (λ (x : Heard OemState). (lifted x).line ≡ Oem O.Outside) (eqb b h.sum && Oem.sequenced h.sequence) (λ e. refl) (λ e. refl)

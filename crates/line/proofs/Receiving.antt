@@ -20,11 +20,9 @@ use Rattle.line.specs.declared.Deed.TheVariants.{Nothing, Keep, Frame}
 use Rattle.line.specs.declared.Heard.{Heard}
 use Rattle.line.specs.declared.dt.Dt.{Dt as DtState}
 use Rattle.line.specs.declared.dt.Dt.TheVariants as D
-use Rattle.line.specs.declared.dt.Step.{Step as DtStep}
 use Rattle.line.specs.declared.oem.Head.{Head}
 use Rattle.line.specs.declared.oem.Oem.{Oem as OemState}
 use Rattle.line.specs.declared.oem.Oem.TheVariants as O
-use Rattle.line.specs.declared.oem.Step.{Step as OemStep}
 use Rattle.line.specs.Bytes.{printable}
 use Rattle.line.specs.Dt as Dt
 use Rattle.line.specs.Dt.{slash, cr}
@@ -110,8 +108,8 @@ Low Nothing = Unit {0}
 Low (Keep at) = at < 320
 Low (Frame a n) = Unit {0}
 
-abbrev FineDt : DtState → DtStep → Type 0
-FineDt d s = Low s.deed × (Dt.Within d → Dt.Within s.dt)
+abbrev FineDt : DtState → Heard DtState → Type 0
+FineDt d s = Low s.deed × (Dt.Within d → Dt.Within s.line)
 
 dt_end : (d : DtState) → FineDt d (Dt.end_of d)
 unfolding Dt.end_of
@@ -133,8 +131,8 @@ fine_dt d b =
     by (FineDt d) (eqb b cr) (λ e. dt_end d) (λ e.
     by (FineDt d) (printable b) (λ e. dt_take d b) (λ e. (tt, λ w. tt))))
 
-abbrev FineOem : OemState → OemStep → Type 0
-FineOem o s = Low s.deed × (Oem.Within o → Oem.Within s.oem)
+abbrev FineOem : OemState → Heard OemState → Type 0
+FineOem o s = Low s.deed × (Oem.Within o → Oem.Within s.line)
 
 oem_header : (o next : OemState) (b : ℕ) → Oem.Within next → FineOem o (Oem.header_of b next)
 unfolding Oem.header_of
@@ -158,7 +156,7 @@ fine_oem (O.Collecting h n) b =
     by (FineOem (O.Collecting h n)) (printable b) (λ e. oem_take h n b) (λ e. (tt, λ w. tt))))
 fine_oem (O.Ended h n) b = by (FineOem (O.Ended h n)) (eqb b h.sum && Oem.sequenced h.sequence) (λ e. (tt, λ w. tt)) (λ e. (tt, λ w. tt))
 
-abbrev Fine : Line → Heard → Type 0
+abbrev Fine : Line → Heard Line → Type 0
 Fine l h = Low h.deed × (Within l → Within h.line)
 
 fine : (l : Line) (b : ℕ) → Fine l (hear_of l b)

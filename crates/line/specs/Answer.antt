@@ -1,5 +1,5 @@
 -- 01, "From the wire": answers and the status byte; and 02, W-204: what an answer is in OEM framing.
-use Rattle.std.specs.Prelude.{ℕ, ◌+◌, ◌%◌, ◌≡◌, Bool, List, [], ◌∷◌, ◌++◌, ltb, length, take, if◌then◌else◌}
+use Rattle.std.specs.Prelude.{ℕ, ◌+◌, ◌%◌, ◌≡◌, Bool, List, [], ◌∷◌, ◌++◌, ltb, length, take, if◌then◌else◌, None, Option, Some}
 use Rattle.basics.specs.Bytes.{zero_digit}
 use Rattle.basics.specs.Lay.{over}
 use Rattle.decimal.specs.Digits.{fixed_of}
@@ -10,8 +10,6 @@ use Rattle.line.specs.Dt.{slash, cr}
 use Rattle.line.specs.Oem.{stx, etx}
 use Rattle.line.specs.declared.Report.{Report}
 use Rattle.line.specs.declared.Report.TheVariants.{Nothing, Character, Whole, Tenths, Thousandths}
-use Rattle.line.specs.declared.Said.{Said}
-use Rattle.line.specs.declared.Said.TheVariants.{Answer, S1}
 
 -- "bits 7 and 6 are 0 and 1, bit 5 is 1 when ready and 0 when busy, bit 4 is 0, the low four bits are the error code"
 unfoldable pub status_of : Bool → ℕ → ℕ
@@ -46,6 +44,6 @@ pub record Closed (f : Framing) (at : ℕ) (before : List ℕ) (r : ℕ) (after 
   pub bytes : after ≡ over (tail_of f (take at before)) at before
 
 -- "S1: answer buffer lent is shorter than 32 bytes: controller and buffer unchanged." "Bytes after an answer's end stay as they were."
-pub record Answered (f : Framing) (status : ℕ) (report : Report) (before : List ℕ) (r : Said) (after : List ℕ) : Type 0 where
-  pub said : r ≡ (if ltb (length before) 32 then S1 else Answer (length (answer_of f status report)))
+pub record Answered (f : Framing) (status : ℕ) (report : Report) (before : List ℕ) (r : Option ℕ) (after : List ℕ) : Type 0 where
+  pub said : r ≡ (if ltb (length before) 32 then None else Some (length (answer_of f status report)))
   pub left : after ≡ (if ltb (length before) 32 then before else over (answer_of f status report) 0 before)

@@ -1,4 +1,5 @@
 pub mod Bytes
+pub mod Heard
 pub mod Dt
 pub mod Oem
 pub mod Wire

@@ -26,9 +26,9 @@ framing_of (Dt d) = F.Dt
 framing_of (Oem o) = F.Oem
 
 -- what either hands up
-unfoldable pub hear_of : Line → ℕ → Heard
-hear_of (Dt d) b = let s = Dt.hear_of d b in record { line = Dt s.dt; deed = s.deed }
-hear_of (Oem o) b = let s = Oem.hear_of o b in record { line = Oem s.oem; deed = s.deed }
+unfoldable pub hear_of : Line → ℕ → Heard Line
+hear_of (Dt d) b = let s = Dt.hear_of d b in record { line = Dt s.line; deed = s.deed }
+hear_of (Oem o) b = let s = Oem.hear_of o b in record { line = Oem s.line; deed = s.deed }
 
 -- the frame's data after a byte that asked for a deed
 unfoldable pub keep_of : List ℕ → Deed → ℕ → List ℕ

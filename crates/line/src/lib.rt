@@ -4,13 +4,14 @@
 pub mod dt;
 pub mod oem;
 
-ghost use Rattle.std.specs.Prelude.{◌≡◌, ◌+◌, ◌≤◌, length, set};
+ghost use Rattle.std.specs.Prelude.{◌≡◌, ◌+◌, ◌≤◌, length};
 ghost use Rattle.basics.specs.Lay.{Laid};
 ghost use Rattle.line.specs.Bytes.{printable, sum_of};
+ghost use Rattle.line.specs.Heard.{waits};
 ghost use Rattle.line.specs.Wire.{fresh_line, framing_of, hear_of, keep_of, is_whole};
 ghost use Rattle.line.specs.Answer.{status_of, report_of, start_of, Closed, Answered};
 
-use basics::Put;
+use decimal::Decimals;
 use dt::Dt;
 use oem::Oem;
 
@@ -36,9 +37,27 @@ impl Deed {
         ensures { result ≡ is_whole self }
     {
         match self {
-            Deed::Nothing => false,
-            Deed::Keep(_) => false,
+            Deed::Nothing | Deed::Keep(_) => false,
             Deed::Frame(_, _) => true,
+        }
+    }
+}
+
+// What a byte leaves: the receiver, of one framing or of either, and what is asked for.
+#[derive(Clone, Copy)]
+pub struct Heard<R> {
+    pub line: R,
+    pub deed: Deed,
+}
+
+impl<R> Heard<R> {
+    // The byte changes the receiver and nothing else.
+    fn waits(line: R) -> Heard<R>
+        ensures { result ≡ waits line }
+    {
+        Heard {
+            line,
+            deed: Deed::Nothing,
         }
     }
 }
@@ -50,20 +69,12 @@ pub enum Line {
     Oem(Oem),
 }
 
-#[derive(Clone, Copy)]
-pub struct Heard {
-    pub line: Line,
-    pub deed: Deed,
-}
-
 // Whether a byte is one of 20h to 7Eh.
+#[tactic(auto, unfolding(crate::specs::Bytes::printable))]
 pub fn printable(b: u8) -> bool
     ensures { result ≡ printable b }
 {
-    if b < 32 {
-        return false;
-    }
-    b <= 126
+    32 <= b && b <= 126
 }
 
 impl Line {
@@ -87,25 +98,22 @@ impl Line {
     }
 
     // One byte from the wire.
-    pub fn hear(self, b: u8) -> Heard
+    #[tactic(auto, unfolding(crate::specs::Wire::hear_of))]
+    pub fn hear(self, b: u8) -> Heard<Line>
         ensures { result ≡ hear_of self b }
     {
         match self {
             Line::Dt(dt) => {
-                let step = dt.hear(b);
-                let next = step.dt;
-                let deed = step.deed;
+                let Heard { line, deed } = dt.hear(b);
                 Heard {
-                    line: Line::Dt(next),
+                    line: Line::Dt(line),
                     deed,
                 }
             }
             Line::Oem(oem) => {
-                let step = oem.hear(b);
-                let next = step.oem;
-                let deed = step.deed;
+                let Heard { line, deed } = oem.hear(b);
                 Heard {
-                    line: Line::Oem(next),
+                    line: Line::Oem(line),
                     deed,
                 }
             }
@@ -113,23 +121,15 @@ impl Line {
     }
 }
 
-// A byte at a place, if there is such a place.
-fn set_at(bytes: &mut [u8], at: usize, b: u8)
-    ensures { bytes.new ≡ set bytes.old at b }
-{
-    if at < bytes.len() {
-        bytes[at] = b;
-    }
-}
-
 // The frame's data after a byte that asked for this deed.
+#[tactic(auto, unfolding(crate::specs::Wire::keep_of))]
 pub fn keep(frame: &mut [u8; 320], deed: Deed, b: u8)
     ensures { frame.new ≡ keep_of frame.old deed b }
 {
+    // Of what `get_mut` lends a proof knows only the length afterwards.
     match deed {
-        Deed::Nothing => {}
-        Deed::Keep(at) => set_at(frame, at, b),
-        Deed::Frame(_, _) => {}
+        Deed::Keep(at) if at < frame.len() => frame[at] = b,
+        _ => {}
     }
 }
 
@@ -143,40 +143,26 @@ pub enum Report {
     Thousandths(u32),
 }
 
-// An answer of so many bytes, or that the buffer lent is shorter than 32 bytes.
-#[derive(Clone, Copy)]
-pub enum Said {
-    Answer(usize),
-    S1,
-}
-
 // The status byte.
+#[tactic(auto, unfolding(crate::specs::Answer::status_of))]
 pub fn status(ready: bool, code: u8) -> u8
     ensures { result ≡ status_of ready code }
 {
-    let low = code % 16;
-    if ready {
-        return 96 + low;
-    }
-    64 + low
+    let state = if ready { 96 } else { 64 };
+    state + code % 16
 }
 
 // The report's bytes from the fourth place on.
-fn put_report(report: Report, buf: &mut [u8]) -> Put
+#[tactic(auto, unfolding(crate::specs::Answer::report_of))]
+fn put_report(report: Report, buf: &mut [u8]) -> Option<usize>
     ensures { Laid (report_of report) 3 buf.old result buf.new }
 {
     match report {
-        Report::Nothing => {
-            let none = [0u8; 0];
-            basics::lay(&none, buf, 3)
-        }
-        Report::Character(c) => {
-            let one = [c];
-            basics::lay(&one, buf, 3)
-        }
-        Report::Whole(n) => decimal::put_whole(n, buf, 3),
-        Report::Tenths(n) => decimal::put_tenths(n, buf, 3),
-        Report::Thousandths(n) => decimal::put_thousandths(n, buf, 3),
+        Report::Nothing => basics::lay(&[], buf, 3),
+        Report::Character(c) => basics::lay(&[c], buf, 3),
+        Report::Whole(n) => decimal::put(u64::from(n), Decimals::Zero, buf, 3),
+        Report::Tenths(n) => decimal::put(u64::from(n), Decimals::One, buf, 3),
+        Report::Thousandths(n) => decimal::put(u64::from(n), Decimals::Three, buf, 3),
     }
 }
 
@@ -184,18 +170,12 @@ fn put_report(report: Report, buf: &mut [u8]) -> Put
 pub fn sum(bytes: &[u8]) -> u8
     ensures { result ≡ sum_of bytes.now }
 {
-    let mut sum = 0u8;
-    let mut i = 0;
-    while i < bytes.len() {
-        let b = bytes[i];
-        sum = sum ^ b;
-        i += 1;
-    }
-    sum
+    bytes.iter().fold(0, |sum, b| sum ^ b)
 }
 
 impl Framing {
     // What an answer begins with.
+    #[tactic(auto, unfolding(crate::specs::Answer::start_of))]
     fn start(self) -> u8
         ensures { result ≡ start_of self }
     {
@@ -212,14 +192,12 @@ impl Framing {
     {
         match self {
             Framing::Dt => {
-                let tail = [3u8, 13, 10];
-                basics::lay(&tail, buf, at);
+                basics::lay(&[3, 13, 10], buf, at);
                 at + 3
             }
             Framing::Oem => {
                 let before = sum(&buf[..at]);
-                let tail = [3u8, before ^ 3];
-                basics::lay(&tail, buf, at);
+                basics::lay(&[3, before ^ 3], buf, at);
                 at + 2
             }
         }
@@ -227,18 +205,13 @@ impl Framing {
 }
 
 // The whole answer at the start of the buffer; its other bytes stay as they were.
-pub fn answer(framing: Framing, status: u8, report: Report, buf: &mut [u8]) -> Said
+pub fn answer(framing: Framing, status: u8, report: Report, buf: &mut [u8]) -> Option<usize>
     ensures { Answered framing status report buf.old result buf.new }
 {
     if buf.len() < 32 {
-        return Said::S1;
+        return None;
     }
-    let head = [framing.start(), b'0', status];
-    basics::lay(&head, buf, 0);
-    let Put::Bytes(size) = put_report(report, buf) else {
-        return Said::S1;
-    };
-    let at = 3 + size;
-    let end = framing.close(buf, at);
-    Said::Answer(end)
+    basics::lay(&[framing.start(), b'0', status], buf, 0);
+    let size = put_report(report, buf)?;
+    Some(framing.close(buf, 3 + size))
 }

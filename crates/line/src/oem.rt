@@ -1,8 +1,8 @@
 // The receiver of OEM frames.
 ghost use Rattle.std.specs.Prelude.{◌≡◌};
-ghost use Rattle.line.specs.Oem.{sequenced, head_of, with_byte, waits, header_of, take_of, collect_of, judged_of, hear_of};
+ghost use Rattle.line.specs.Oem.{sequenced, head_of, with_byte, header_of, take_of, collect_of, judged_of, hear_of};
 
-use crate::{Deed, printable};
+use crate::{Deed, Heard, printable};
 
 // Of a frame in hand: to whom it goes, its sequence byte, and the exclusive-or of all its bytes so far.
 #[derive(Clone, Copy)]
@@ -22,55 +22,32 @@ pub enum Oem {
     Ended(Head, u32),
 }
 
-#[derive(Clone, Copy)]
-pub struct Step {
-    pub oem: Oem,
-    pub deed: Deed,
-}
-
-impl Step {
-    // The byte changes the receiver and nothing else.
-    fn waits(oem: Oem) -> Step
-        ensures { result ≡ waits oem }
-    {
-        Step {
-            oem,
-            deed: Deed::Nothing,
-        }
-    }
-}
-
 // Outside a frame.
-fn outside(b: u8) -> Step
+#[tactic(auto, unfolding(crate::specs::Oem::hear_of))]
+fn outside(b: u8) -> Heard<Oem>
     ensures { result ≡ hear_of Oem.Outside b }
 {
-    if b == 2 {
-        return Step::waits(Oem::Started);
-    }
-    Step::waits(Oem::Outside)
+    Heard::waits(if b == 2 { Oem::Started } else { Oem::Outside })
 }
 
 // Where the address or the sequence stands: what comes next is given by the byte.
-fn header(b: u8, next: Oem) -> Step
+#[tactic(auto, unfolding(crate::specs::Oem::header_of))]
+fn header(b: u8, next: Oem) -> Heard<Oem>
     ensures { result ≡ header_of b next }
 {
-    if b == 2 {
-        return Step::waits(Oem::Started);
+    match b {
+        2 => Heard::waits(Oem::Started),
+        _ if printable(b) => Heard::waits(next),
+        _ => Heard::waits(Oem::Outside),
     }
-    if printable(b) {
-        return Step::waits(next);
-    }
-    Step::waits(Oem::Outside)
 }
 
 // Whether a sequence byte is one of 30h to 37h.
+#[tactic(auto, unfolding(crate::specs::Oem::sequenced))]
 fn sequenced(b: u8) -> bool
     ensures { result ≡ sequenced b }
 {
-    if b < 48 {
-        return false;
-    }
-    b <= 55
+    48 <= b && b <= 55
 }
 
 impl Head {
@@ -88,62 +65,59 @@ impl Head {
     fn with(self, b: u8) -> Head
         ensures { result ≡ with_byte self b }
     {
-        let mut next = self;
-        next.sum = self.sum ^ b;
-        next
+        Head {
+            sum: self.sum ^ b,
+            ..self
+        }
     }
 
     // A data byte.
-    fn take(self, count: u32, b: u8) -> Step
+    #[tactic(auto, unfolding(crate::specs::Oem::take_of))]
+    fn take(self, count: u32, b: u8) -> Heard<Oem>
         ensures { result ≡ take_of self count b }
     {
         let next = self.with(b);
         if count < 320 {
-            let more = count + 1;
-            return Step {
-                oem: Oem::Collecting(next, more),
+            return Heard {
+                line: Oem::Collecting(next, count + 1),
                 deed: Deed::Keep(count as usize),
             };
         }
-        Step::waits(Oem::Collecting(next, 321))
+        Heard::waits(Oem::Collecting(next, 321))
     }
 
     // Inside the frame.
-    fn collect(self, count: u32, b: u8) -> Step
+    #[tactic(auto, unfolding(crate::specs::Oem::collect_of))]
+    fn collect(self, count: u32, b: u8) -> Heard<Oem>
         ensures { result ≡ collect_of self count b }
     {
-        if b == 2 {
-            return Step::waits(Oem::Started);
+        match b {
+            2 => Heard::waits(Oem::Started),
+            3 => Heard::waits(Oem::Ended(self.with(3), count)),
+            _ if printable(b) => self.take(count, b),
+            _ => Heard::waits(Oem::Outside),
         }
-        if b == 3 {
-            return Step::waits(Oem::Ended(self.with(3), count));
-        }
-        if printable(b) {
-            return self.take(count, b);
-        }
-        Step::waits(Oem::Outside)
     }
 
     // The sum.
-    fn judge(self, count: u32, b: u8) -> Step
+    #[tactic(auto, unfolding(crate::specs::Oem::judged_of))]
+    fn judge(self, count: u32, b: u8) -> Heard<Oem>
         ensures { result ≡ judged_of self count b }
     {
-        if b != self.sum {
-            return Step::waits(Oem::Outside);
-        }
-        if sequenced(self.sequence) {
-            return Step {
-                oem: Oem::Outside,
+        if b == self.sum && sequenced(self.sequence) {
+            return Heard {
+                line: Oem::Outside,
                 deed: Deed::Frame(self.address, count as usize),
             };
         }
-        Step::waits(Oem::Outside)
+        Heard::waits(Oem::Outside)
     }
 }
 
 impl Oem {
     // One byte from the wire.
-    pub fn hear(self, b: u8) -> Step
+    #[tactic(auto, unfolding(crate::specs::Oem::hear_of))]
+    pub fn hear(self, b: u8) -> Heard<Oem>
         ensures { result ≡ hear_of self b }
     {
         match self {

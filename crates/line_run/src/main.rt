@@ -3,7 +3,7 @@
 
 use line::dt::Dt;
 use line::oem::{Head, Oem};
-use line::{Deed, Framing, Line, Report, Said};
+use line::{Deed, Framing, Line, Report};
 use std::io::{self, Stdout};
 
 // The line and the data of the frame in hand.
@@ -53,22 +53,21 @@ fn tell_frame(out: Stdout, address: u8, count: usize, frame: &[u8; 320]) -> io::
 
 fn tell(out: Stdout, deed: Deed, frame: &[u8; 320]) -> io::Result<()> {
     match deed {
-        Deed::Nothing => Ok(()),
-        Deed::Keep(_) => Ok(()),
+        Deed::Nothing | Deed::Keep(_) => Ok(()),
         Deed::Frame(address, count) => tell_frame(out, address, count, frame),
     }
 }
 
 // One byte; a frame that it completes is printed.
 fn give(out: Stdout, r: Receiver, b: u8) -> io::Result<Receiver> {
-    let line = r.line;
     let mut frame = r.frame;
-    let heard = line.hear(b);
-    let next = heard.line;
-    let deed = heard.deed;
-    line::keep(&mut frame, deed, b);
-    tell(out, deed, &frame)?;
-    Ok(Receiver { line: next, frame })
+    let heard = r.line.hear(b);
+    line::keep(&mut frame, heard.deed, b);
+    tell(out, heard.deed, &frame)?;
+    Ok(Receiver {
+        line: heard.line,
+        frame,
+    })
 }
 
 fn give_all(out: Stdout, start: Receiver, bytes: &[u8]) -> io::Result<Receiver> {
@@ -110,10 +109,7 @@ fn hear_long(out: Stdout, n: usize) -> io::Result<()> {
 
 // The next digit, `0` after `9`.
 fn after(digit: u8) -> u8 {
-    if digit < b'9' {
-        return digit + 1;
-    }
-    b'0'
+    if digit < b'9' { digit + 1 } else { b'0' }
 }
 
 // A letter for the line after a byte that asked for nothing: `.` outside, `s` started, `a` addressed, `c` collecting, `e` ended.
@@ -145,10 +141,8 @@ fn letter_of(line: Line) -> u8 {
 // What a byte does on a line: `k` kept, `F` a frame, or the letter of the next line.
 fn mark(line: Line, b: u8) -> u8 {
     let heard = line.hear(b);
-    let next = heard.line;
-    let deed = heard.deed;
-    match deed {
-        Deed::Nothing => letter_of(next),
+    match heard.deed {
+        Deed::Nothing => letter_of(heard.line),
         Deed::Keep(_) => b'k',
         Deed::Frame(_, _) => b'F',
     }
@@ -174,19 +168,19 @@ fn table(out: Stdout, line: Line) -> io::Result<()> {
     row(out, line, 224)
 }
 
-fn tell_said(out: Stdout, said: Said) -> io::Result<()> {
+fn tell_said(out: Stdout, said: Option<usize>) -> io::Result<()> {
     match said {
-        Said::Answer(n) => print!(out; "answer of {n}"),
-        Said::S1 => print!(out; "S1"),
+        Some(n) => print!(out; "answer of {n}"),
+        None => print!(out; "S1"),
     }
 }
 
 // An answer into the first n bytes of a buffer.
-fn answer_first(n: usize, buf: &mut [u8]) -> Said {
+fn answer_first(n: usize, buf: &mut [u8]) -> Option<usize> {
     if n <= buf.len() {
         return line::answer(Framing::Dt, 96, Report::Whole(44000), &mut buf[..n]);
     }
-    Said::S1
+    None
 }
 
 fn show_buffer(out: Stdout, buf: &[u8; 33]) -> io::Result<()> {

@@ -10,11 +10,10 @@ use borrow.Author.Tests.{ltb-false}
 use lib.Dec.{ltb}
 use lib.ListN.{length, take}
 use lib.Seq.{length-take-le}
-use Rattle.std.specs.Prelude.{if◌then◌else◌}
+use Rattle.std.specs.Prelude.{if◌then◌else◌, Err, Ok}
+use Rattle.command.specs.Verdict.{Verdict}
 use Rattle.basics.proofs.Choice.{by}
 use Rattle.command.specs.declared.refusal.Refusal.{Refusal}
-use Rattle.command.specs.declared.refusal.Verdict.{Verdict}
-use Rattle.command.specs.declared.refusal.Verdict.TheVariants.{Fine, Refused}
 use Rattle.command.specs.Numbers.{refusal_number}
 use Rattle.motion.specs.declared.Activity.{Activity}
 use Rattle.motion.specs.declared.Activity.TheVariants.{Between}
@@ -101,26 +100,26 @@ module _ (o : Order) (n : ℕ) (c : Core) where
 
 -- an order that was accepted or refused
 module _ (o : Order) (v : Verdict) (n : ℕ) (c r : Core) where
-  pub accepts : (d : Core) → v ≡ Fine → d ≡ (done_of o n c).next → r ≡ core_error 0 0 d → r ≡ (acted_of o v n c).next
+  pub accepts : (d : Core) → v ≡ Ok tt → d ≡ (done_of o n c).next → r ≡ core_error 0 0 d → r ≡ (acted_of o v n c).next
   unfolding acted_of
   accepts d h p e = rw h (e ∙ ap (λ (x : Core). core_error 0 0 x) p)
 
-  pub refuses : (why : Refusal) (code : ℕ) → v ≡ Refused why → code ≡ refusal_number why → r ≡ core_error code 0 c → r ≡ (acted_of o v n c).next
+  pub refuses : (why : Refusal) (code : ℕ) → v ≡ Err why → code ≡ refusal_number why → r ≡ core_error code 0 c → r ≡ (acted_of o v n c).next
   unfolding acted_of
   refuses why code h q e = rw h (rw q at e)
 
-pub what_is_fine_fits : (o : Order) (v : Verdict) (len n : ℕ) → Fitting o v len n → v ≡ Fine → length_by o len n ≤ 256
+pub what_is_fine_fits : (o : Order) (v : Verdict) (len n : ℕ) → Fitting o v len n → v ≡ Ok tt → length_by o len n ≤ 256
 what_is_fine_fits o v len n f e = f.fits e
 
 -- what is accepted fits: over 256 is refused first
-sized_fits : (n : ℕ) (loops : Bool) → sized n loops ≡ Fine → n ≤ 256
+sized_fits : (n : ℕ) (loops : Bool) → sized n loops ≡ Ok tt → n ≤ 256
 unfolding sized
 sized_fits n loops =
-    by (λ (v : Verdict). v ≡ Fine → n ≤ 256) (ltb 256 n)
+    by (λ (v : Verdict). v ≡ Ok tt → n ≤ 256) (ltb 256 n)
     (λ h e. let z : ◌≡◌ {A = ℕ} 0 1 = cc in absurd (omega arith))
     (λ h e. ltb-false 256 n h)
 
-pub accepted_fits : (o : Order) (stored added : List ℕ) → verdict_of o stored added ≡ Fine → length_by o (length stored) (length added) ≤ 256
+pub accepted_fits : (o : Order) (stored added : List ℕ) → verdict_of o stored added ≡ Ok tt → length_by o (length stored) (length added) ≤ 256
 unfolding verdict_of
 accepted_fits (O.Refuse why) stored added e = omega arith
 accepted_fits (O.Load l run) stored added e = sized_fits (kept_of l (length stored) + length added) (loops_by (O.Load l run) stored added) e

@@ -3,8 +3,8 @@ use mathlib.Core.Path.{◌≡◌, refl}
 use mathlib.Core.List.{List, []}
 use Prim.Native.Nat.{ℕ}
 use lib.ListN.{length}
-use Rattle.command.specs.declared.refusal.Verdict.{Verdict}
-use Rattle.command.specs.declared.refusal.Verdict.TheVariants.{Fine, Refused}
+use Rattle.std.specs.Prelude.{Err, Ok}
+use Rattle.command.specs.Verdict.{Verdict}
 use Rattle.motion.specs.Events.{Turn}
 use Rattle.buffer.specs.declared.course.Column.{Column}
 use Rattle.buffer.specs.declared.course.Column.TheVariants as K
@@ -58,8 +58,8 @@ done_leaves (O.Change change) n c h = changed_leaves change c h
 
 acted_leaves : (o : Order) (v : Verdict) (n : ℕ) (c : Core) → Quiet o → SameBody c (acted_of o v n c)
 unfolding acted_of
-acted_leaves o Fine n c h = let s = done_leaves o n c h in record { body = s.body; events = s.events }
-acted_leaves o (Refused why) n c h = record { body = refl; events = refl }
+acted_leaves o (Ok tt) n c h = let s = done_leaves o n c h in record { body = s.body; events = s.events }
+acted_leaves o (Err why) n c h = record { body = refl; events = refl }
 
 -- strings, R, X and C
 abbrev pub NoStop : Action → Type 0

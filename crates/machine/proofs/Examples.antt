@@ -7,6 +7,7 @@ use Prim.Native.String.{String}
 use lib.ListN.{replicate}
 use Rattle.basics.specs.Bytes.{chars, digit, every, value_of}
 use Rattle.basics.specs.Lay.{over, fits, laid_in}
+use Rattle.settings.specs.declared.Volume.TheVariants as V
 use Rattle.settings.specs.Limits.{within}
 use Rattle.settings.specs.Units.{rate_of, millionths_of, goal_of, gone_of}
 use Rattle.operand.specs.Text.{run, rest}
@@ -43,7 +44,7 @@ abbrev shows : ℕ → ℕ → List Event → Shown
 shows plunger exact events = record { plunger = plunger; exact = exact; events = events }
 
 abbrev nL : ℕ → ℕ → Bool → Event
-nL n rate up = volume (record { amount = n; micro = true }) rate up
+nL n rate up = volume (V.Nanolitres n) rate up
 
 pub histories_move :
     shown (runs "WA5" 3 [])

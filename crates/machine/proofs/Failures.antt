@@ -7,13 +7,12 @@ use native.Mathlib.Omega.{arith}
 use borrow.Author.Tests.{ltb-true, ltb-false, lt-ltb, le-ltb, ne_eqb}
 use lib.Dec.{ltb, leb, eqb}
 use lib.ListN.{take}
-use Rattle.std.specs.Prelude.{if◌then◌else◌}
+use Rattle.std.specs.Prelude.{if◌then◌else◌, Err, None, Ok, Option, Result, Some}
+use Rattle.command.specs.Found.{Found}
 use Rattle.basics.specs.Exactly.{Exactly}
 use Rattle.basics.proofs.Choice.{by}
 use Rattle.settings.specs.declared.Volume.{Volume}
 use Rattle.settings.specs.Units.{millionths_of, goal_of, ticks_of}
-use Rattle.level.specs.declared.Pressure.{Pressure}
-use Rattle.level.specs.declared.Pressure.TheVariants.{Beyond, Counts}
 use Rattle.level.specs.declared.Search.{Search}
 use Rattle.level.specs.declared.Finding.{Finding}
 use Rattle.level.specs.declared.Finding.TheVariants as Found
@@ -25,20 +24,18 @@ use Rattle.motion.specs.declared.Body.{Body}
 use Rattle.motion.specs.declared.Travel.{Travel}
 use Rattle.motion.specs.declared.Activity.{Activity}
 use Rattle.motion.specs.declared.Activity.TheVariants.{Initialising, Moving, Delaying, Approaching, Searching, Ejecting, Between}
-use Rattle.motion.specs.declared.Target.{Target}
 use Rattle.motion.specs.declared.Effect.{Effect}
 use Rattle.motion.specs.declared.Effect.TheVariants.{Goes, Ends, Fails, Asks, Opens, Closes}
 use Rattle.motion.specs.Events.{Turn}
 use Rattle.motion.specs.Bodies.{later_of, plunger_of, body_at}
 use Rattle.motion.specs.Detect.{felt_in, no_way_down, approach_of, zeroed_of, detect_of, approached_of, found_as, searched_of}
 use Rattle.motion.specs.Motion.{between, home_of, target_of, set_out, aimed, move_of, delay_of, eject_of, effect_of, carried, waited_of, ejected_of, onward_of}
+use Rattle.command.specs.Verdict.{Verdict}
 use Rattle.command.specs.declared.refusal.Refusal.{Refusal}
 use Rattle.command.specs.declared.refusal.Refusal.TheVariants as R
-use Rattle.command.specs.declared.refusal.Verdict.TheVariants.{Fine, Refused}
 use Rattle.command.specs.declared.Way.{Way}
 use Rattle.command.specs.declared.Command.{Command}
 use Rattle.command.specs.declared.Command.TheVariants as C
-use Rattle.command.specs.declared.Found.{Found}
 use Rattle.command.specs.Command.{command_at}
 use Rattle.text.specs.Text.{reads, read_of}
 use Rattle.text.specs.Loops.{Part, opens, closes, plain, part_of, loops_ok}
@@ -47,7 +44,6 @@ use Rattle.buffer.specs.declared.course.State.{State}
 use Rattle.buffer.specs.declared.course.State.TheVariants.{Empty, Stored, Running, Stopped, Done}
 use Rattle.buffer.specs.declared.course.Loops.{Loops}
 use Rattle.buffer.specs.declared.course.Course.{Course}
-use Rattle.buffer.specs.declared.course.Went.{Went}
 use Rattle.buffer.specs.Course.{mark, pushed, pass_of, reached, gone_on, opened_of, closed_of}
 use Rattle.machine.specs.declared.step.Core.{Core}
 use Rattle.machine.specs.declared.step.Stepped.{Stepped}
@@ -118,21 +114,21 @@ pub record FailsSo (x : Sense) (k : Command) (b : Body) (why : Refusal) (d : Bod
   pub cause : Failing x k b why
   pub body : d ≡ b
 
-aimed_fails : (g : Target) (way : Way) (v : Volume) (b : Body) (why : Refusal) (d : Body) → (aimed g way v b).next ≡ Fails why d → (why ≡ R.Outside) × (d ≡ b) × (g ≡ Target.Outside)
+aimed_fails : (g : Option ℕ) (way : Way) (v : Volume) (b : Body) (why : Refusal) (d : Body) → (aimed g way v b).next ≡ Fails why d → (why ≡ R.Outside) × (d ≡ b) × (g ≡ None)
 unfolding aimed set_out
-aimed_fails (Target.At exact) way v b why d e = never (eqb b.plunger (goal_of exact)) _ _ d _ why e
-aimed_fails Target.Outside way v b why d e = (cc, cc, refl)
+aimed_fails (Some exact) way v b why d e = never (eqb b.plunger (goal_of exact)) _ _ d _ why e
+aimed_fails None way v b why d e = (cc, cc, refl)
 
 never_asks : {A : Type 0} (d : Body) (why : Refusal) → Asks ≡ Fails why d → A
 never_asks d why e = let z : ◌≡◌ {A = ℕ} 0 1 = cc in absurd (omega arith)
 
 zeroed_fails :
     (x : Sense) (here : Bool) (b : Body) (why : Refusal) (d : Body) → b.initialised ≡ true → no_way_down b.settings.detection ≡ false →
-    (p : Pressure) → felt_in x ≡ p → (zeroed_of here p b).next ≡ Fails why d → FailsSo x (C.Detect here) b why d
+    (p : Option ℕ) → felt_in x ≡ p → (zeroed_of here p b).next ≡ Fails why d → FailsSo x (C.Detect here) b why d
 unfolding zeroed_of approach_of
-zeroed_fails x here b why d i n Beyond f e = let is : why ≡ R.TooMuchPressure = cc in let same : d ≡ b = cc in rw is (record { cause = no_zero here refl i n f; body = same })
-zeroed_fails x true b why d i n (Counts z) f e = never_goes _ d _ why e
-zeroed_fails x false b why d i n (Counts z) f e = never_either (eqb b.plunger b.settings.detection.place) _ _ d _ _ why e
+zeroed_fails x here b why d i n None f e = let is : why ≡ R.TooMuchPressure = cc in let same : d ≡ b = cc in rw is (record { cause = no_zero here refl i n f; body = same })
+zeroed_fails x true b why d i n (Some z) f e = never_goes _ d _ why e
+zeroed_fails x false b why d i n (Some z) f e = never_either (eqb b.plunger b.settings.detection.place) _ _ d _ _ why e
 
 pub effect_fails : (x : Sense) (k : Command) (b : Body) (why : Refusal) (d : Body) → (effect_of x k b).next ≡ Fails why d → FailsSo x k b why d
 unfolding effect_of home_of move_of delay_of eject_of detect_of
@@ -183,11 +179,11 @@ pub record BreaksSo (x : Sense) (a : Activity) (b : Body) (why : Refusal) (d : B
   pub body : d ≡ left_by a b
 
 approached_fails :
-    (x : Sense) (t : Travel) (z : ℕ) (b : Body) (why : Refusal) (d : Body) (p : Pressure) → felt_in x ≡ p →
+    (x : Sense) (t : Travel) (z : ℕ) (b : Body) (why : Refusal) (d : Body) (p : Option ℕ) → felt_in x ≡ p →
     (approached_of p (later_of t) z (body_at (plunger_of (later_of t)) b)).next ≡ Fails why d → BreaksSo x (Approaching t z) b why d
 unfolding approached_of
-approached_fails x t z b why d Beyond f e = let is : why ≡ R.TooMuchPressure = cc in rw is (record { cause = halted_move t z f; body = cc })
-approached_fails x t z b why d (Counts r) f e = never_either (eqb (plunger_of (later_of t)) t.goal) _ _ d _ _ why e
+approached_fails x t z b why d None f e = let is : why ≡ R.TooMuchPressure = cc in rw is (record { cause = halted_move t z f; body = cc })
+approached_fails x t z b why d (Some r) f e = never_either (eqb (plunger_of (later_of t)) t.goal) _ _ d _ _ why e
 
 searched_fails :
     (x : Sense) (s : Search) (b : Body) (why : Refusal) (d : Body) (f : Finding) → finding_of b.settings.detection (Level.later_of s) (felt_in x) ≡ f →
@@ -225,7 +221,7 @@ module _ (c : Course) where
 
 -- a command that erases the text is one that fails
 module _ (c : Core) (p : Part) (next : ℕ) (shallow : p ≡ opens → c.course.loops.depth < 4) (held : (n : ℕ) → p ≡ closes n → c.course.loops.depth ≡ 0 → ⊥) where
-  abbrev Stays : Went → Type 0
+  abbrev Stays : Result Course Refusal → Type 0
   Stays g = (went_of g c.body c.course).core.course.state ≡ Empty → ⊥
 
   opened_stays : p ≡ opens → Stays (opened_of next c.course)
@@ -325,12 +321,12 @@ where_there_is_a_cause_the_run_fails text x c why (taken k t w) = step_fails tex
 where_there_is_a_cause_the_run_fails text x c why (judged a s w) = let (e, n) = must_break x a c.body why w in step_breaks text x c why a s n e
 
 -- a tick tells of a failure exactly where there is a cause
-fine_is_not_refused : {A : Type 0} (why : Refusal) → Fine ≡ Refused why → A
+fine_is_not_refused : {A : Type 0} (why : Refusal) → ◌≡◌ {A = Verdict} (Ok tt) (Err why) → A
 fine_is_not_refused why e = let z : ◌≡◌ {A = ℕ} 0 1 = cc in absurd (omega arith)
 
-told_erases : (w : Around) (c : Core) (why : Refusal) → (step_of w c).next.news.failed ≡ Refused why → (step_of w c).next.core.course.state ≡ Empty
+told_erases : (w : Around) (c : Core) (why : Refusal) → (step_of w c).next.news.failed ≡ Err why → (step_of w c).next.core.course.state ≡ Empty
 told_erases w c why =
-    step_by (λ (s : Stepped). s.news.failed ≡ Refused why → s.core.course.state ≡ Empty) c
+    step_by (λ (s : Stepped). s.news.failed ≡ Err why → s.core.course.state ≡ Empty) c
     (record {
       rests = fine_is_not_refused why;
       goes = λ b a at. fine_is_not_refused why;
@@ -341,13 +337,13 @@ told_erases w c why =
     w
 
 module _ (text : List ℕ) (x : Sense) (c : Core) (why : Refusal) where
-  told_so : Fault text x c → (step_of (around text x) c).next.news.failed ≡ Refused why → Cause text x c why
+  told_so : Fault text x c → (step_of (around text x) c).next.news.failed ≡ Err why → Cause text x c why
   told_so f h =
       let same = sym (ap (λ (s : Stepped). s.news.failed) f.so) ∙ h in
       let is : f.refusal ≡ why = cc in
       rw is at f.why
 
-  told_in : (s : State) → c.course.state ≡ s → CourseOn text c.course → (step_of (around text x) c).next.news.failed ≡ Refused why → Cause text x c why
+  told_in : (s : State) → c.course.state ≡ s → CourseOn text c.course → (step_of (around text x) c).next.news.failed ≡ Err why → Cause text x c why
   unfolding step_of active_of
   told_in (Running a) s o h = told_so (a_run_fails_for_a_cause text x c a s o (told_erases (around text x) c why h)) h
   told_in Empty s o h = fine_is_not_refused why (rw s at h)
@@ -355,7 +351,7 @@ module _ (text : List ℕ) (x : Sense) (c : Core) (why : Refusal) where
   told_in Stopped s o h = fine_is_not_refused why (rw s at h)
   told_in Done s o h = fine_is_not_refused why (rw s at h)
 
-  pub a_run_fails_exactly_for_a_cause : CourseOn text c.course → Exactly ((step_of (around text x) c).next.news.failed ≡ Refused why) (Cause text x c why)
+  pub a_run_fails_exactly_for_a_cause : CourseOn text c.course → Exactly ((step_of (around text x) c).next.news.failed ≡ Err why) (Cause text x c why)
   a_run_fails_exactly_for_a_cause o =
       record {
         only = told_in c.course.state refl o;

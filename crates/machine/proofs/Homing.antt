@@ -4,21 +4,19 @@ use mathlib.Core.Bool.{false}
 use Prim.Native.Nat.{ℕ}
 use lib.Dec.{ltb, leb, eqb}
 use lib.ListN.{take, length}
+use Rattle.std.specs.Prelude.{Err, None, Ok, Option, Result, Some}
+use Rattle.command.specs.declared.refusal.Refusal.{Refusal}
+use Rattle.command.specs.Verdict.{Verdict}
+use Rattle.command.specs.Found.{Found}
 use Rattle.basics.proofs.Choice.{by}
 use Rattle.settings.specs.declared.Volume.{Volume}
 use Rattle.settings.specs.Units.{goal_of, ticks_of, millionths_of}
-use Rattle.command.specs.declared.refusal.Verdict.{Verdict}
-use Rattle.command.specs.declared.refusal.Verdict.TheVariants.{Fine, Refused}
 use Rattle.command.specs.declared.Command.{Command}
 use Rattle.command.specs.declared.Way.{Way}
-use Rattle.command.specs.declared.Found.{Found}
-use Rattle.command.specs.declared.Found.TheVariants as F
 use Rattle.command.specs.Command.{command_at}
 use Rattle.motion.specs.declared.Sense.{Sense}
 use Rattle.motion.specs.declared.Body.{Body}
 use Rattle.motion.specs.declared.Travel.{Travel}
-use Rattle.motion.specs.declared.Target.{Target}
-use Rattle.motion.specs.declared.Target.TheVariants.{At, Outside}
 use Rattle.motion.specs.declared.Activity.{Activity}
 use Rattle.motion.specs.declared.Activity.TheVariants.{Initialising, Moving, Delaying, Approaching, Searching, Ejecting, Between}
 use Rattle.motion.specs.declared.Effect.{Effect}
@@ -32,7 +30,6 @@ use Rattle.buffer.specs.declared.course.State.{State}
 use Rattle.buffer.specs.declared.course.State.TheVariants.{Empty, Stored, Running, Stopped, Done}
 use Rattle.buffer.specs.declared.course.Loops.{Loops}
 use Rattle.buffer.specs.declared.course.Course.{Course}
-use Rattle.buffer.specs.declared.course.Went.{Went}
 use Rattle.buffer.specs.declared.order.Change.{Change}
 use Rattle.buffer.specs.declared.order.Change.TheVariants as C
 use Rattle.buffer.specs.declared.order.Order.{Order}
@@ -80,10 +77,10 @@ EffectHomes (Closes n) = Unit {0}
 
 -- a command that is taken
 module _ (b : Body) where
-  aimed_homes : (t : Target) (way : Way) (v : Volume) → EffectHomes (aimed t way v b).next
+  aimed_homes : (t : Option ℕ) (way : Way) (v : Volume) → EffectHomes (aimed t way v b).next
   unfolding aimed set_out
-  aimed_homes (At exact) way v = by EffectHomes (eqb b.plunger (goal_of exact)) (λ h. tt) (λ h. tt)
-  aimed_homes Outside way v = tt
+  aimed_homes (Some exact) way v = by EffectHomes (eqb b.plunger (goal_of exact)) (λ h. tt) (λ h. tt)
+  aimed_homes None way v = tt
 
   effect_homes : (x : Sense) (k : Command) → EffectHomes (effect_of x k b).next
   unfolding effect_of home_of delay_of
@@ -123,7 +120,7 @@ module _ (b : Body) (c : Course) where
   halted_homes = by (λ (d : Course). Homes (core b d)) (ltb c.at c.len) (λ h. tt) (λ h. tt)
 
 module _ (c : Core) where
-  abbrev WentHomes : Went → Type 0
+  abbrev WentHomes : Result Course Refusal → Type 0
   WentHomes g = Homes (went_of g c.body c.course).core
 
   applied_homes : (e : Effect) (next : ℕ) → EffectHomes e → Homes (applied_of e next c).core
@@ -137,9 +134,9 @@ module _ (c : Core) where
 
   taken_homes : (x : Sense) (f : Found) → Homes (taken_of x f c).next.core
   unfolding taken_of
-  taken_homes x (F.Command k next) = applied_homes (effect_of x k c.body).next next (effect_homes c.body x k)
-  taken_homes x (F.Refused m) = tt
-  taken_homes x F.End = reached_homes c.body c.course c.course.at c.course.loops
+  taken_homes x (Ok (Some (k, next))) = applied_homes (effect_of x k c.body).next next (effect_homes c.body x k)
+  taken_homes x (Err m) = tt
+  taken_homes x (Ok None) = reached_homes c.body c.course c.course.at c.course.loops
 
   running_homes : (a : Activity) (w : Around) → HomesBy a c.body → Homes (running_of a w c).next.core
   unfolding running_of carried_on
@@ -182,8 +179,8 @@ module _ (c : Core) where
 
   acted_homes : (o : Order) (v : Verdict) (n : ℕ) → Homes c → Homes (acted_of o v n c).next
   unfolding acted_of
-  acted_homes o Fine n g = done_homes o n g
-  acted_homes o (Refused why) n g = g
+  acted_homes o (Ok tt) n g = done_homes o n g
+  acted_homes o (Err why) n g = g
 
 -- every call keeps it
 pub a_call_keeps_homing : (k : Call) (d : Device) → Homes d.core → Homes (call_of k d).next.core

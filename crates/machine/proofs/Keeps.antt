@@ -4,12 +4,12 @@ use Prim.Native.Nat.{ℕ}
 use native.Mathlib.Omega.{arith}
 use lib.Dec.{ltb}
 use lib.ListN.{take}
+use Rattle.std.specs.Prelude.{Err, None, Ok, Result, Some}
+use Rattle.command.specs.Found.{Found}
 use Rattle.basics.proofs.Choice.{by}
 use Rattle.command.specs.declared.Command.{Command}
 use Rattle.command.specs.declared.refusal.Refusal.{Refusal}
 use Rattle.command.specs.declared.refusal.Refusal.TheVariants as R
-use Rattle.command.specs.declared.Found.{Found}
-use Rattle.command.specs.declared.Found.TheVariants as F
 use Rattle.command.proofs.Numbers.{every_number_is_1_to_15}
 use Rattle.command.specs.Command.{command_at}
 use Rattle.command.specs.Allowed.{Allowed}
@@ -26,7 +26,6 @@ use Rattle.buffer.specs.declared.course.State.{State}
 use Rattle.buffer.specs.declared.course.State.TheVariants.{Empty, Stored, Running, Stopped, Done}
 use Rattle.buffer.specs.declared.course.Loops.{Loops}
 use Rattle.buffer.specs.declared.course.Course.{Course}
-use Rattle.buffer.specs.declared.course.Went.{Went}
 use Rattle.buffer.specs.Course.{reached, failed_of}
 use Rattle.machine.specs.declared.step.Core.{Core}
 use Rattle.machine.specs.declared.step.Stepped.{Stepped}
@@ -49,7 +48,7 @@ module _ (c : Core) (ok : Valid c) where
   off : (why : Refusal) → CourseOk (failed_of why c.course)
   off = failed_ok c.course ok.course
 
-  abbrev WentOk : Went → Type 0
+  abbrev WentOk : Result Course Refusal → Type 0
   WentOk g = Valid (went_of g c.body c.course).core
 
   looped : (at : ℕ) (l : Loops) → Valid (record { body = c.body; course = reached at l c.course })
@@ -64,11 +63,11 @@ module _ (c : Core) (ok : Valid c) where
   applied_ok Opens next h = behind_open WentOk c.course looped (record { body = ok.body; course = off R.Loops }) next
   applied_ok (Closes n) next h = behind_close WentOk c.course looped (record { body = ok.body; course = off R.Loops }) n next
 
-  taken_ok : (x : Sense) (f : Found) → ((k : Command) (next : ℕ) → f ≡ F.Command k next → Allowed k) → Valid (taken_of x f c).next.core
+  taken_ok : (x : Sense) (f : Found) → ((k : Command) (next : ℕ) → f ≡ Ok (Some (k, next)) → Allowed k) → Valid (taken_of x f c).next.core
   unfolding taken_of
-  taken_ok x (F.Command k next) h = applied_ok (effect_of x k c.body).next next (effect_keeps x k c.body (h k next refl) ok.body)
-  taken_ok x (F.Refused m) h = record { body = ok.body; course = off (R.Misread m) }
-  taken_ok x F.End h = looped c.course.at c.course.loops
+  taken_ok x (Ok (Some (k, next))) h = applied_ok (effect_of x k c.body).next next (effect_keeps x k c.body (h k next refl) ok.body)
+  taken_ok x (Err m) h = record { body = ok.body; course = off (R.Misread m) }
+  taken_ok x (Ok None) h = looped c.course.at c.course.loops
 
   carried_ok : (x : Sense) (a : Activity) → ActivityOk a → Valid (carried_on x a c).next.core
   unfolding carried_on

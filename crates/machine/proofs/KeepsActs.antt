@@ -8,11 +8,11 @@ use borrow.Author.Tests.{leb-true}
 use lib.Dec.{ltb, leb}
 use lib.ListN.{length, take}
 use lib.Seq.{length-take-le}
+use Rattle.std.specs.Prelude.{Err, Ok}
+use Rattle.command.specs.Verdict.{Verdict}
 use Rattle.basics.specs.Lay.{fits, laid_in}
 use Rattle.basics.proofs.Choice.{by}
 use Rattle.basics.proofs.Over.{length_over}
-use Rattle.command.specs.declared.refusal.Verdict.{Verdict}
-use Rattle.command.specs.declared.refusal.Verdict.TheVariants.{Fine, Refused}
 use Rattle.command.specs.Numbers.{refusal_number}
 use Rattle.command.proofs.Numbers.{every_number_is_1_to_15}
 use Rattle.motion.proofs.Keeps.{cut_keeps, reset_keeps}
@@ -86,10 +86,10 @@ module _ (c : Core) (ok : Valid c) where
 pub error_ok : (code column : ℕ) (c : Core) → code ≤ 15 → Valid c → Valid (core_error code column c)
 error_ok code column c small ok = record { body = ok.body; course = record { len = ok.course.len; state = ok.course.state; error = small } }
 
-acted_keeps : (o : Order) (v : Verdict) (n : ℕ) (c : Core) → Valid c → (v ≡ Fine → length_by o c.course.len n ≤ 256) → Valid (acted_of o v n c).next
+acted_keeps : (o : Order) (v : Verdict) (n : ℕ) (c : Core) → Valid c → (v ≡ Ok tt → length_by o c.course.len n ≤ 256) → Valid (acted_of o v n c).next
 unfolding acted_of
-acted_keeps o Fine n c ok h = error_ok 0 0 (done_of o n c).next (omega arith) (done_keeps c ok o n (h refl))
-acted_keeps o (Refused why) n c ok h = error_ok (refusal_number why) 0 c (every_number_is_1_to_15 why).1 ok
+acted_keeps o (Ok tt) n c ok h = error_ok 0 0 (done_of o n c).next (omega arith) (done_keeps c ok o n (h refl))
+acted_keeps o (Err why) n c ok h = error_ok (refusal_number why) 0 c (every_number_is_1_to_15 why).1 ok
 
 -- the array keeps its length
 length_laid_in : (added : List ℕ) (at : ℕ) (text : List ℕ) → length (laid_in added at text) ≡ length text
@@ -107,8 +107,8 @@ length_laid_by (O.Change k) len added text = refl
 
 length_stored_by : (o : Order) (v : Verdict) (len : ℕ) (added text : List ℕ) → length (stored_by o v len added text) ≡ length text
 unfolding stored_by
-length_stored_by o Fine len added text = length_laid_by o len added text
-length_stored_by o (Refused why) len added text = refl
+length_stored_by o (Ok tt) len added text = length_laid_by o len added text
+length_stored_by o (Err why) len added text = refl
 
 -- a string or a control that is accepted has room, and one refused changes only the last error
 pub act_keeps : (a : Action) (added : List ℕ) (d : Device) → Ready d.core d.text → (let e = (act_of a added d).next.device in Ready e.core e.text)

@@ -45,9 +45,9 @@ pub record Running (start : Stepped) (text : List ℕ) (x : Sense) (n : ℕ) (s 
   pub here : s ≡ ticks_of used (around text x) start
   pub count : used_of n (around text x) start ≡ used + used_of (n - used) (around text x) s
 
-pub begins : (c : Core) (text : List ℕ) (x : Sense) (n : ℕ) → Ready c text → Running (fine c) text x n (fine c) 0
+pub begins : (c : Core) (text : List ℕ) (x : Sense) (n : ℕ) (s : Stepped) → Ready c text → s ≡ fine c → Running (fine c) text x n s 0
 unfolding ticks_of
-begins c text x n r = let z : n - 0 ≡ n = omega arith in record { ready = r; within = omega arith; here = refl; count = rw z (omega arith) }
+begins c text x n s r e = let z : n - 0 ≡ n = omega arith in rw e (record { ready = r; within = omega arith; here = refl; count = rw z (omega arith) })
 
 module _ (first : Core) (text : List ℕ) (x : Sense) (n : ℕ) (s : Stepped) (used : ℕ) (r : Running (fine first) text x n s used) where
   stops : used_of (n - used) (around text x) s ≡ 0 → record { stepped = s; used = used } ≡ run_of n (around text x) first

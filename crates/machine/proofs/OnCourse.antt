@@ -8,18 +8,18 @@ use borrow.Author.Tests.{ltb-true, ltb-false, lt-ltb, ne_eqb}
 use lib.Dec.{ltb, leb, eqb}
 use lib.ListN.{length, take, length-append}
 use lib.Seq.{length-take-le, take-length}
-use Rattle.std.specs.Prelude.{if◌then◌else◌}
+use Rattle.std.specs.Prelude.{if◌then◌else◌, Err, None, Ok, Option, Result, Some}
+use Rattle.command.specs.declared.refusal.Refusal.{Refusal}
+use Rattle.command.specs.Verdict.{Verdict}
+use Rattle.command.specs.Found.{Found}
 use Rattle.basics.proofs.Choice.{by}
 use Rattle.settings.specs.declared.Volume.{Volume}
 use Rattle.settings.specs.Units.{millionths_of, goal_of, ticks_of}
-use Rattle.command.specs.declared.refusal.Verdict.{Verdict}
-use Rattle.command.specs.declared.refusal.Verdict.TheVariants.{Fine, Refused}
 use Rattle.motion.specs.declared.Sense.{Sense}
 use Rattle.motion.specs.declared.Body.{Body}
 use Rattle.motion.specs.declared.Travel.{Travel}
 use Rattle.motion.specs.declared.Activity.{Activity}
 use Rattle.motion.specs.declared.Activity.TheVariants.{Initialising, Moving, Delaying, Approaching, Searching, Ejecting, Between}
-use Rattle.motion.specs.declared.Target.{Target}
 use Rattle.motion.specs.declared.Effect.{Effect}
 use Rattle.motion.specs.declared.Effect.TheVariants.{Goes, Ends, Fails, Asks, Opens, Closes}
 use Rattle.motion.specs.Events.{Turn}
@@ -30,8 +30,6 @@ use Rattle.motion.proofs.Moves.{move_by_lem, eject_by_lem, ejected_by, detect_by
 use Rattle.command.specs.declared.Way.{Way}
 use Rattle.command.specs.declared.Command.{Command}
 use Rattle.command.specs.declared.Command.TheVariants as C
-use Rattle.command.specs.declared.Found.{Found}
-use Rattle.command.specs.declared.Found.TheVariants as F
 use Rattle.command.specs.Command.{command_at}
 use Rattle.text.specs.Text.{Step, reads, read_from, read_of}
 use Rattle.text.specs.Loops.{Part, opens, closes, plain, part_of, loops_ok, loops_in}
@@ -40,12 +38,8 @@ use Rattle.buffer.specs.declared.course.State.{State}
 use Rattle.buffer.specs.declared.course.State.TheVariants.{Empty, Stored, Running, Stopped, Done}
 use Rattle.buffer.specs.declared.course.Loops.{Loops}
 use Rattle.buffer.specs.declared.course.Course.{Course}
-use Rattle.buffer.specs.declared.course.Went.{Went}
-use Rattle.buffer.specs.declared.course.Went.TheVariants.{On, Off}
 use Rattle.buffer.specs.declared.course.Column.{Column}
 use Rattle.buffer.specs.declared.course.Column.TheVariants as Col
-use Rattle.buffer.specs.declared.course.Pass.{Pass}
-use Rattle.buffer.specs.declared.course.Pass.TheVariants.{Again, Over}
 use Rattle.buffer.specs.Course.{mark, pushed, popped, repeated, no_loops, pass_of, reached, gone_on, opened_of, closed_by, closed_of, halted, while_of, column_of}
 use Rattle.machine.specs.declared.step.Core.{Core}
 use Rattle.buffer.specs.declared.order.Action.{Action}
@@ -85,10 +79,10 @@ Fits Asks p = p ≡ plain
 Fits Opens p = p ≡ opens
 Fits (Closes n) p = p ≡ closes n
 
-aimed_fits : (g : Target) (way : Way) (v : Volume) (b : Body) → Fits (aimed g way v b).next plain
+aimed_fits : (g : Option ℕ) (way : Way) (v : Volume) (b : Body) → Fits (aimed g way v b).next plain
 unfolding aimed set_out
-aimed_fits (Target.At exact) way v b = by (λ (e : Effect). Fits e plain) (eqb b.plunger (goal_of exact)) (λ h. refl) (λ h. (refl, refl))
-aimed_fits Target.Outside way v b = tt
+aimed_fits (Some exact) way v b = by (λ (e : Effect). Fits e plain) (eqb b.plunger (goal_of exact)) (λ h. refl) (λ h. (refl, refl))
+aimed_fits None way v b = tt
 
 pub effect_fits : (x : Sense) (k : Command) (b : Body) → Fits (effect_of x k b).next (part_of k)
 unfolding effect_of home_of delay_of
@@ -140,9 +134,9 @@ module _ (text : List ℕ) (c : Course) (all : length (take c.len text) ≡ c.le
   gone_on_on a at e w = subst (λ (x : Bool). AheadIf x (take c.len text) at c.loops) (sym e) w
 
   -- a course that goes on, or a run that fails and is erased
-  abbrev WentOn : Went → Type 0
-  WentOn (On on) = CourseOn text on
-  WentOn (Off why) = Unit {0}
+  abbrev WentOn : Result Course Refusal → Type 0
+  WentOn (Ok on) = CourseOn text on
+  WentOn (Err why) = Unit {0}
 
   module _ (w : OnWay (take c.len text) c.at c.loops) (n : Next (take c.len text) w.may c.at w.rounds) where
     opened_on : part_of n.command ≡ opens → WentOn (opened_of n.next c)
@@ -152,10 +146,10 @@ module _ (text : List ℕ) (c : Course) (all : length (take c.len text) ≡ c.le
         (reached_on n.next (pushed (mark n.next 0) c.loops) (way_open (take c.len text) c.at c.loops w n o))
 
     module _ (k : ℕ) (is : part_of n.command ≡ closes k) where
-      closed_by_on : (p : Pass) → CourseOn text (closed_by p n.next c)
+      closed_by_on : (p : Option ℕ) → CourseOn text (closed_by p n.next c)
       unfolding closed_by
-      closed_by_on (Again p) = reached_on c.loops.first.start (repeated p c.loops) (way_back (take c.len text) c.at c.loops w n k is p)
-      closed_by_on Over = reached_on n.next (popped c.loops) (way_out (take c.len text) c.at c.loops w n k is)
+      closed_by_on (Some p) = reached_on c.loops.first.start (repeated p c.loops) (way_back (take c.len text) c.at c.loops w n k is p)
+      closed_by_on None = reached_on n.next (popped c.loops) (way_out (take c.len text) c.at c.loops w n k is)
 
       closed_on : WentOn (closed_of k n.next c)
       unfolding closed_of
@@ -163,9 +157,9 @@ module _ (text : List ℕ) (c : Course) (all : length (take c.len text) ≡ c.le
           rw (ne_eqb c.loops.depth 0 (λ h. omega (arith, way_deep (take c.len text) c.at c.loops w n k is)))
           (closed_by_on (pass_of k c.loops.first.passes))
 
-went_on : (text : List ℕ) (g : Went) (b : Body) (c : Course) (all : length (take c.len text) ≡ c.len) → WentOn text c all g → CourseOn text (went_of g b c).core.course
-went_on text (On on) b c all w = w
-went_on text (Off why) b c all w = tt
+went_on : (text : List ℕ) (g : Result Course Refusal) (b : Body) (c : Course) (all : length (take c.len text) ≡ c.len) → WentOn text c all g → CourseOn text (went_of g b c).core.course
+went_on text (Ok on) b c all w = w
+went_on text (Err why) b c all w = tt
 
 module _ (text : List ℕ) (c : Core) (all : length (take c.course.len text) ≡ c.course.len) where
   -- what goes on, ends or fails, with the next command at a place of the run's way
@@ -189,7 +183,7 @@ module _ (text : List ℕ) (c : Core) (all : length (take c.course.len text) ≡
     applied_on Opens p = went_on text (opened_of n.next c.course) c.body c.course all (opened_on text c.course all w n p)
     applied_on (Closes k) p = went_on text (closed_of k n.next c.course) c.body c.course all (closed_on text c.course all w n k p)
 
-    taken_on : (x : Sense) (f : Found) → f ≡ F.Command n.command n.next → CourseOn text (taken_of x f c).next.core.course
+    taken_on : (x : Sense) (f : Found) → f ≡ Ok (Some (n.command, n.next)) → CourseOn text (taken_of x f c).next.core.course
     unfolding taken_of
     taken_on x f e = rw e (applied_on (effect_of x n.command c.body).next (effect_fits x n.command c.body))
 
@@ -398,11 +392,11 @@ module _ (text : List ℕ) (c : Core) (all : length (take c.course.len text) ≡
 
   acted_on :
       (o : Order) (v : Verdict) (added : List ℕ) → CourseOn text c.course →
-      (v ≡ Fine → CourseOn (laid_by o c.course.len added text) (done_of o (length added) c).next.course) →
+      (v ≡ Ok tt → CourseOn (laid_by o c.course.len added text) (done_of o (length added) c).next.course) →
       CourseOn (stored_by o v c.course.len added text) (acted_of o v (length added) c).next.course
   unfolding stored_by acted_of
-  acted_on o Fine added was is = is refl
-  acted_on o (Refused why) added was is = was
+  acted_on o (Ok tt) added was is = is refl
+  acted_on o (Err why) added was is = was
 
 text_all : (d : Device) → Ready d.core d.text → length (take d.core.course.len d.text) ≡ d.core.course.len
 text_all d r = length-take-le d.core.course.len d.text (omega (arith, r.valid.course.len, r.long))

@@ -7,6 +7,10 @@ use native.Mathlib.Omega.{arith}
 use borrow.Author.Tests.{eqb-true, ltb-false}
 use lib.Dec.{ltb, leb, eqb}
 use lib.ListN.{length, take}
+use Rattle.std.specs.Prelude.{Err, None, Ok, Option, Result, Some}
+use Rattle.command.specs.declared.refusal.Refusal.{Refusal}
+use Rattle.command.specs.Verdict.{Verdict}
+use Rattle.command.specs.Found.{Found}
 use Rattle.basics.proofs.Choice.{by}
 use Rattle.settings.specs.declared.Volume.{Volume}
 use Rattle.settings.specs.Units.{ticks_of, millionths_of, goal_of, Near}
@@ -14,10 +18,6 @@ use Rattle.settings.proofs.Rounding.{goal_is_within_half_an_increment}
 use Rattle.command.specs.declared.Way.{Way}
 use Rattle.command.specs.declared.Way.TheVariants.{To, Up, Down}
 use Rattle.command.specs.declared.Command.{Command}
-use Rattle.command.specs.declared.refusal.Verdict.{Verdict}
-use Rattle.command.specs.declared.refusal.Verdict.TheVariants.{Fine, Refused}
-use Rattle.command.specs.declared.Found.{Found}
-use Rattle.command.specs.declared.Found.TheVariants as F
 use Rattle.command.specs.Command.{command_at}
 use Rattle.motion.specs.declared.Sense.{Sense}
 use Rattle.motion.specs.declared.Body.{Body}
@@ -26,10 +26,7 @@ use Rattle.motion.specs.declared.Activity.{Activity}
 use Rattle.motion.specs.declared.Activity.TheVariants.{Initialising, Moving, Delaying, Approaching, Searching, Ejecting, Between}
 use Rattle.motion.specs.declared.Effect.{Effect}
 use Rattle.motion.specs.declared.Effect.TheVariants.{Goes, Ends, Fails, Asks, Opens, Closes}
-use Rattle.motion.specs.declared.Target.{Target}
-use Rattle.motion.specs.declared.Target.TheVariants.{At, Outside}
 use Rattle.motion.specs.Events.{Turn}
-use Rattle.level.specs.declared.Pressure.{Pressure}
 use Rattle.level.specs.declared.Finding.{Finding}
 use Rattle.level.specs.Level as Level
 use Rattle.level.specs.Level.{plunger_in, finding_of, sought_of}
@@ -41,7 +38,6 @@ use Rattle.buffer.specs.declared.course.State.{State}
 use Rattle.buffer.specs.declared.course.State.TheVariants.{Empty, Stored, Running, Stopped, Done}
 use Rattle.buffer.specs.declared.course.Loops.{Loops}
 use Rattle.buffer.specs.declared.course.Course.{Course}
-use Rattle.buffer.specs.declared.course.Went.{Went}
 use Rattle.buffer.specs.declared.course.Column.TheVariants as K
 use Rattle.machine.specs.declared.step.Core.{Core}
 use Rattle.machine.specs.declared.step.Stepped.{Stepped}
@@ -116,9 +112,9 @@ Reaches To volume from exact = Unit {0}
 Reaches Up volume from exact = exact ≡ from + volume
 Reaches Down volume from exact = exact + volume ≡ from
 
-abbrev Lands : Way → ℕ → ℕ → Target → Type 0
-Lands way volume from (At exact) = Reaches way volume from exact
-Lands way volume from Outside = Unit {0}
+abbrev Lands : Way → ℕ → ℕ → Option ℕ → Type 0
+Lands way volume from (Some exact) = Reaches way volume from exact
+Lands way volume from None = Unit {0}
 
 target_lands : (way : Way) (volume from : ℕ) → Lands way volume from (target_of way volume from)
 unfolding target_of within
@@ -153,10 +149,10 @@ module _ (b : Body) (s : Sum) (told : Told b.plunger b.exact s) where
       (λ q. record { sum = h; near = rw (eqb-true b.plunger (goal_of exact) q) near })
       (λ q. record { sum = h; near = near })
 
-  aimed_tells : (t : Target) (way : Way) (v : Volume) → Lands way (millionths_of v b.settings.rate) b.exact t → EffectTold b (aimed t way v b).next (added_up s (aimed t way v b).events)
+  aimed_tells : (t : Option ℕ) (way : Way) (v : Volume) → Lands way (millionths_of v b.settings.rate) b.exact t → EffectTold b (aimed t way v b).next (added_up s (aimed t way v b).events)
   unfolding aimed added_up
-  aimed_tells (At exact) way v h = set_out_tells exact _ (move_counts way v b.settings.rate b.exact exact s told.sum h)
-  aimed_tells Outside way v h = told
+  aimed_tells (Some exact) way v h = set_out_tells exact _ (move_counts way v b.settings.rate b.exact exact s told.sum h)
+  aimed_tells None way v h = told
 
   move_tells : (way : Way) (v : Volume) → EffectTold b (move_of way v b).next (added_up s (move_of way v b).events)
   unfolding added_up
@@ -210,7 +206,7 @@ unfolding waited_of
 waited_tells k b s told = by (λ (e : Effect). EffectTold b e s) (leb k 1) (λ h. told) (λ h. told)
 
 -- B's move ends where the search begins, or at the plunger; a search ends at the plunger
-approached_tells : (p : Pressure) (t : Travel) (z : ℕ) (b : Body) (s : Sum) → Told t.goal b.exact s →
+approached_tells : (p : Option ℕ) (t : Travel) (z : ℕ) (b : Body) (s : Sum) → Told t.goal b.exact s →
     (let e = approached_of p (later_of t) z (body_at (plunger_of (later_of t)) b) in EffectTold b e.next (added_up s e.events))
 unfolding added_up IsSum
 approached_tells p t z b s told =
@@ -273,7 +269,7 @@ rests_told : (c : Course) (b : Body) (s : Sum) → Rests c → Told b.plunger b.
 rests_told c b s h told = rw (at_rest c.state b.plunger b.exact h) told
 
 module _ (c : Core) where
-  abbrev WentTold : Sum → Went → Type 0
+  abbrev WentTold : Sum → Result Course Refusal → Type 0
   WentTold s g = CoreTold (went_of g c.body c.course).core s
 
   ended_tells : (b : Body) (at : ℕ) (l : Loops) (s : Sum) → Told b.plunger b.exact s → CoreTold (core b (reached at l c.course)) s
@@ -290,9 +286,9 @@ module _ (c : Core) where
 
   taken_tells : (x : Sense) (f : Found) (s : Sum) → Told c.body.plunger c.body.exact s → CoreTold (taken_of x f c).next.core (added_up s (taken_of x f c).events)
   unfolding taken_of added_up
-  taken_tells x (F.Command k next) s told = applied_tells (effect_of x k c.body).next next _ (effect_tells c.body s told x k)
-  taken_tells x (F.Refused m) s told = told
-  taken_tells x F.End s told = ended_tells c.body c.course.at c.course.loops s told
+  taken_tells x (Ok (Some (k, next))) s told = applied_tells (effect_of x k c.body).next next _ (effect_tells c.body s told x k)
+  taken_tells x (Err m) s told = told
+  taken_tells x (Ok None) s told = ended_tells c.body c.course.at c.course.loops s told
 
   carried_on_tells : (x : Sense) (a : Activity) (s : Sum) → Told (toward a c.body.plunger c.body.exact) c.body.exact s → CoreTold (carried_on x a c).next.core (added_up s (carried_on x a c).events)
   unfolding carried_on
@@ -402,8 +398,8 @@ module _ (c : Core) (s : Sum) (told : CoreTold c s) where
 
   acted_tells : (o : Order) (v : Verdict) (n : ℕ) → (moving c.course.state ≡ true → Mild o) → CoreTold (acted_of o v n c).next (added_up s (acted_of o v n c).events)
   unfolding acted_of added_up
-  acted_tells o Fine n h = done_tells o n h
-  acted_tells o (Refused why) n h = told
+  acted_tells o (Ok tt) n h = done_tells o n h
+  acted_tells o (Err why) n h = told
 
 -- a string or a control that is accepted, and one refused, which changes only the last error
 pub act_tells : (a : Action) (added : List ℕ) (d : Device) (s : Sum) → CoreTold d.core s → CoreTold (act_of a added d).next.device.core (added_up s (act_of a added d).events)

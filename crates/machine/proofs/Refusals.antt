@@ -8,12 +8,11 @@ use native.Mathlib.Omega.{arith}
 use borrow.Author.Tests.{ltb-true, ltb-false, lt-ltb, le-ltb}
 use lib.Dec.{ltb}
 use lib.ListN.{length, take}
-use Rattle.std.specs.Prelude.{if◌then◌else◌}
+use Rattle.std.specs.Prelude.{if◌then◌else◌, Err, Ok}
+use Rattle.command.specs.Verdict.{Verdict}
 use Rattle.basics.specs.Exactly.{Exactly}
 use Rattle.command.specs.declared.refusal.Refusal.{Refusal}
 use Rattle.command.specs.declared.refusal.Refusal.TheVariants as R
-use Rattle.command.specs.declared.refusal.Verdict.{Verdict}
-use Rattle.command.specs.declared.refusal.Verdict.TheVariants.{Fine, Refused}
 use Rattle.command.specs.Numbers.{refusal_number, verdict_number}
 use Rattle.text.specs.Text.{Reading, reads, wrong, read_of}
 use Rattle.text.specs.Loops.{loops_ok, loops_in}
@@ -34,8 +33,8 @@ use Rattle.machine.specs.Act.{core_error, acted_of, acted, act_of}
 use Rattle.machine.specs.Refusals.{stored_in, verdict_for, number_for, NothingToRun, run_empty, run_done, again_empty, again_stored, again_stopped, again_delaying, Busy, store, store_delaying, clear, clear_delaying, launch, run, again, TooMuch, busy, long, Treeless, Tree, WrongLoops}
 
 -- "a refusal changes nothing but the last error"
-module _ (a : Action) (added : List ℕ) (d : Device) (why : Refusal) (refused : verdict_for a added d ≡ Refused why) where
-  pub a_refusal_sets_the_error_only : (act_of a added d).next ≡ acted d.text d.tip (core_error (refusal_number why) 0 d.core) (Refused why)
+module _ (a : Action) (added : List ℕ) (d : Device) (why : Refusal) (refused : verdict_for a added d ≡ Err why) where
+  pub a_refusal_sets_the_error_only : (act_of a added d).next ≡ acted d.text d.tip (core_error (refusal_number why) 0 d.core) (Err why)
   unfolding act_of acted_of stored_by
   a_refusal_sets_the_error_only = rw refused
 
@@ -87,14 +86,14 @@ cell A.Reset k = changes _
 
 -- what is answered, with the reason: the cell, then the length, then the loops
 data Told (a : Action) (k : Column) (o : Order) (stored added : List ℕ) : Verdict → Type 0 where
-  nothing : NothingToRun a k → Told a k o stored added (Refused R.NothingToRun)
-  at_work : Busy a k → Told a k o stored added (Refused R.Busy)
-  too_long : 256 < length_by o (length stored) (length added) → Told a k o stored added (Refused R.TooLong)
-  loops : length_by o (length stored) (length added) ≤ 256 → loops_by o stored added ≡ false → Told a k o stored added (Refused R.Loops)
-  fine : length_by o (length stored) (length added) ≤ 256 → loops_by o stored added ≡ true → Told a k o stored added Fine
+  nothing : NothingToRun a k → Told a k o stored added (Err R.NothingToRun)
+  at_work : Busy a k → Told a k o stored added (Err R.Busy)
+  too_long : 256 < length_by o (length stored) (length added) → Told a k o stored added (Err R.TooLong)
+  loops : length_by o (length stored) (length added) ≤ 256 → loops_by o stored added ≡ false → Told a k o stored added (Err R.Loops)
+  fine : length_by o (length stored) (length added) ≤ 256 → loops_by o stored added ≡ true → Told a k o stored added (Ok tt)
 
 module _ (a : Action) (k : Column) (stored added : List ℕ) where
-  told_loops : (o : Order) (b : Bool) → loops_by o stored added ≡ b → length_by o (length stored) (length added) ≤ 256 → Told a k o stored added (if b then Fine else Refused R.Loops)
+  told_loops : (o : Order) (b : Bool) → loops_by o stored added ≡ b → length_by o (length stored) (length added) ≤ 256 → Told a k o stored added (if b then Ok tt else Err R.Loops)
   told_loops o true e h = fine h e
   told_loops o false e h = loops h e
 
@@ -102,7 +101,7 @@ module _ (a : Action) (k : Column) (stored added : List ℕ) where
   unfolding sized
   told_sized o = go (ltb 256 (length_by o (length stored) (length added))) refl
     where
-      go : (x : Bool) → ltb 256 (length_by o (length stored) (length added)) ≡ x → Told a k o stored added (if x then Refused R.TooLong else if loops_by o stored added then Fine else Refused R.Loops)
+      go : (x : Bool) → ltb 256 (length_by o (length stored) (length added)) ≡ x → Told a k o stored added (if x then Err R.TooLong else if loops_by o stored added then Ok tt else Err R.Loops)
       go true q = too_long (ltb-true 256 _ q)
       go false q = told_loops o (loops_by o stored added) refl (ltb-false 256 _ q)
 
@@ -136,7 +135,7 @@ module _ (a : Action) (k : Column) (stored added : List ℕ) where
     only_3 v (loops h w) e = (h, w)
     only_3 v (fine h w) e = absurd (omega arith)
 
-    only_0 : (v : Verdict) → Told a k o stored added v → v ≡ Fine → (length_by o (length stored) (length added) ≤ 256) × (loops_by o stored added ≡ true)
+    only_0 : (v : Verdict) → Told a k o stored added v → v ≡ Ok tt → (length_by o (length stored) (length added) ≤ 256) × (loops_by o stored added ≡ true)
     only_0 v (nothing h) e = let z : ◌≡◌ {A = ℕ} 0 1 = cc in absurd (omega arith)
     only_0 v (at_work h) e = let z : ◌≡◌ {A = ℕ} 0 1 = cc in absurd (omega arith)
     only_0 v (too_long h) e = let z : ◌≡◌ {A = ℕ} 0 1 = cc in absurd (omega arith)
@@ -151,19 +150,19 @@ module _ (a : Action) (k : Column) (stored added : List ℕ) where
     known v (fine h w) = inl refl
 
   -- and always with it
-  long_always : (o : Order) → 256 < length_by o (length stored) (length added) → verdict_of o stored added ≡ Refused R.TooLong
+  long_always : (o : Order) → 256 < length_by o (length stored) (length added) → verdict_of o stored added ≡ Err R.TooLong
   unfolding verdict_of sized
   long_always (O.Refuse why) h = absurd (omega arith)
   long_always (O.Load l runs) h = rw (lt-ltb 256 _ h)
   long_always (O.Change c) h = absurd (omega arith)
 
-  wrong_always : (o : Order) → length_by o (length stored) (length added) ≤ 256 → loops_by o stored added ≡ false → verdict_of o stored added ≡ Refused R.Loops
+  wrong_always : (o : Order) → length_by o (length stored) (length added) ≤ 256 → loops_by o stored added ≡ false → verdict_of o stored added ≡ Err R.Loops
   unfolding verdict_of sized loops_by
   wrong_always (O.Refuse why) h e = absurd (false≢true (sym e))
   wrong_always (O.Load l runs) h e = rw (le-ltb 256 _ h, e)
   wrong_always (O.Change c) h e = rw e
 
-nothing_always : (a : Action) (k : Column) (stored added : List ℕ) → NothingToRun a k → verdict_of (cell_of a k) stored added ≡ Refused R.NothingToRun
+nothing_always : (a : Action) (k : Column) (stored added : List ℕ) → NothingToRun a k → verdict_of (cell_of a k) stored added ≡ Err R.NothingToRun
 unfolding cell_of verdict_of
 nothing_always a k stored added run_empty = refl
 nothing_always a k stored added run_done = refl
@@ -172,7 +171,7 @@ nothing_always a k stored added again_stored = refl
 nothing_always a k stored added again_stopped = refl
 nothing_always a k stored added again_delaying = refl
 
-busy_always : (a : Action) (k : Column) (stored added : List ℕ) → Busy a k → verdict_of (cell_of a k) stored added ≡ Refused R.Busy
+busy_always : (a : Action) (k : Column) (stored added : List ℕ) → Busy a k → verdict_of (cell_of a k) stored added ≡ Err R.Busy
 unfolding cell_of verdict_of
 busy_always a k stored added store = refl
 busy_always a k stored added store_delaying = refl
@@ -245,10 +244,10 @@ module _ (a : Action) (added : List ℕ) (d : Device) where
       }
 
   -- and what is accepted fits, and its loops are right
-  pub what_is_accepted_fits : verdict_for a added d ≡ Fine → length_by (cell_of a column) (length (stored_in d)) (length added) ≤ 256
+  pub what_is_accepted_fits : verdict_for a added d ≡ Ok tt → length_by (cell_of a column) (length (stored_in d)) (length added) ≤ 256
   what_is_accepted_fits e = (only_0 a column (stored_in d) added (cell_of a column) (verdict_for a added d) answered e).0
 
-  pub what_is_accepted_loops : verdict_for a added d ≡ Fine → loops_by (cell_of a column) (stored_in d) added ≡ true
+  pub what_is_accepted_loops : verdict_for a added d ≡ Ok tt → loops_by (cell_of a column) (stored_in d) added ≡ true
   what_is_accepted_loops e = (only_0 a column (stored_in d) added (cell_of a column) (verdict_for a added d) answered e).1
 
   -- and there is no other refusal

@@ -4,8 +4,7 @@ use mathlib.Core.Bool.{Bool, true, false}
 use mathlib.Core.List.{List}
 use Prim.Native.Nat.{ℕ, ◌<◌}
 use borrow.Author.Tests.{lt-ltb, ne_eqb}
-use Rattle.std.specs.Prelude.{if◌then◌else◌}
-use Rattle.command.specs.declared.refusal.Verdict.TheVariants.{Fine}
+use Rattle.std.specs.Prelude.{if◌then◌else◌, Ok, Some}
 use Rattle.motion.specs.declared.Body.{Body}
 use Rattle.motion.specs.declared.Activity.{Activity}
 use Rattle.motion.specs.declared.Activity.TheVariants.{Delaying, Between}
@@ -14,8 +13,6 @@ use Rattle.motion.specs.Bodies.{body_for, at_plunger}
 use Rattle.motion.specs.Motion.{in_motion, cut_of}
 use Rattle.buffer.specs.declared.course.State.TheVariants.{Running, Stopped}
 use Rattle.buffer.specs.declared.course.Course.{Course}
-use Rattle.buffer.specs.declared.course.Went.TheVariants.{On}
-use Rattle.buffer.specs.declared.course.Pass.TheVariants.{Again}
 use Rattle.buffer.specs.declared.order.Action.TheVariants as A
 use Rattle.buffer.specs.Course.{in_state, with_error, pass_of, reached, closed_by, closed_of, halted}
 use Rattle.buffer.specs.Order.{cell_of, loops_by, verdict_of, laid_by, stored_by}
@@ -47,33 +44,33 @@ a_stop_stands_before_the_next_command a c e h = rw (e, cut_body_lem a c.body, lt
 -- R in Stopped: "resumes"
 pub a_run_resumes :
     (added : List ℕ) (d : Device) → d.core.course.state ≡ Stopped →
-    (act_of A.Run added d).next ≡ acted d.text d.tip (core d.core.body (with_error 0 0 (in_state (Running Between) d.core.course))) Fine
+    (act_of A.Run added d).next ≡ acted d.text d.tip (core d.core.body (with_error 0 0 (in_state (Running Between) d.core.course))) (Ok tt)
 unfolding act_of acted_of cell_of verdict_of loops_by done_of changed_of stored_by laid_by
 a_run_resumes added d e = rw e
 
 -- R in a delay: "ends a delay (Done at once if that was the last command)": no command is taken before the next tick
 pub a_run_in_a_delay_takes_no_command :
     (k : ℕ) (added : List ℕ) (d : Device) → d.core.course.state ≡ Running (Delaying k) →
-    act_of A.Run added d ≡ quiet (acted d.text d.tip (core d.core.body (with_error 0 0 (reached d.core.course.at d.core.course.loops d.core.course))) Fine)
+    act_of A.Run added d ≡ quiet (acted d.text d.tip (core d.core.body (with_error 0 0 (reached d.core.course.at d.core.course.loops d.core.course))) (Ok tt))
 unfolding act_of acted_of cell_of verdict_of loops_by done_of changed_of stored_by laid_by
 a_run_in_a_delay_takes_no_command k added d e = rw e
 
 -- T and then R: the same place, loops and settings, and the exact position the plunger's where a movement was cut
 pub a_stopped_run_goes_on_where_it_was :
     (a : Activity) (added : List ℕ) (d : Device) → d.core.course.state ≡ Running a → d.core.course.at < d.core.course.len →
-    (act_of A.Run added (halted_of d).next).next ≡ acted d.text d.tip (core (cut_body a d.core.body) (with_error 0 0 (in_state (Running Between) d.core.course))) Fine
+    (act_of A.Run added (halted_of d).next).next ≡ acted d.text d.tip (core (cut_body a d.core.body) (with_error 0 0 (in_state (Running Between) d.core.course))) (Ok tt)
 unfolding halted_of
 a_stopped_run_goes_on_where_it_was a added d e h =
     rw (a_stop_stands_before_the_next_command a d.core e h)
     (a_run_resumes added (device d.text d.tip (core (cut_body a d.core.body) (in_state Stopped d.core.course))) refl)
 
 -- "0 is endless": its G always goes back, and its passes are not counted
-pub an_endless_loop_goes_round_again : (p : ℕ) → pass_of 0 p ≡ Again p
+pub an_endless_loop_goes_round_again : (p : ℕ) → pass_of 0 p ≡ Some p
 unfolding pass_of
 an_endless_loop_goes_round_again p = refl
 
 pub an_endless_G_goes_back :
     (next : ℕ) (c : Course) → (c.loops.depth ≡ 0 → ⊥) →
-    closed_of 0 next c ≡ On (reached c.loops.first.start c.loops c)
+    closed_of 0 next c ≡ Ok (reached c.loops.first.start c.loops c)
 unfolding closed_of closed_by pass_of
 an_endless_G_goes_back next c h = rw (ne_eqb c.loops.depth 0 h)

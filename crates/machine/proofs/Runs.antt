@@ -4,10 +4,9 @@ use mathlib.Core.Bool.{Bool, true, false, ◌||◌, false≢true}
 use Prim.Native.Nat.{ℕ, zero, suc, ◌+◌, ◌-◌, ◌≤◌, ◌<◌}
 use native.Mathlib.Numerals.{sub-one}
 use native.Mathlib.Omega.{arith}
-use Rattle.std.specs.Prelude.{if◌then◌else◌}
+use Rattle.std.specs.Prelude.{if◌then◌else◌, Err, Ok}
+use Rattle.command.specs.Verdict.{Verdict}
 use Rattle.basics.proofs.Choice.{by}
-use Rattle.command.specs.declared.refusal.Verdict.{Verdict}
-use Rattle.command.specs.declared.refusal.Verdict.TheVariants.{Fine, Refused}
 use Rattle.command.specs.Numbers.{first_of}
 use Rattle.buffer.specs.declared.course.State.{State}
 use Rattle.machine.specs.declared.step.Core.{Core}
@@ -41,9 +40,9 @@ still State.Stored w c r = refl
 still State.Stopped w c r = refl
 still State.Done w c r = refl
 
-first_fine : (v : Verdict) → first_of v Fine ≡ v
-first_fine Fine = refl
-first_fine (Refused why) = refl
+first_fine : (v : Verdict) → first_of v (Ok tt) ≡ v
+first_fine (Ok tt) = refl
+first_fine (Err why) = refl
 
 or_nothing : (x : Bool) → (x || false) ≡ x
 or_nothing true = refl

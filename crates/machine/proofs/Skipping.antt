@@ -2,7 +2,8 @@
 use mathlib.Core.Path.{◌≡◌, refl, sym, ap, ◌∙◌}
 use mathlib.Core.Bool.{Bool, true, false}
 use mathlib.Core.List.{List}
-use Prim.Native.Nat.{ℕ, zero, suc, ◌+◌, ◌-◌, ◌*◌, ◌/◌, ◌≤◌, ◌<◌}
+use Prim.Native.Nat.{ℕ, zero, suc, ◌+◌, ◌-◌, ◌*◌, ◌/◌, ◌≤◌, ◌<◌, min}
+use Rattle.std.specs.Int.{abs_diff}
 use lib.Dec.{eqb}
 use native.Mathlib.Numerals.{add-one}
 use native.Mathlib.Omega.{arith}
@@ -38,9 +39,9 @@ use Rattle.machine.proofs.Runs.{next_fine}
 use Rattle.machine.proofs.Movement.{away, Kind, a_move, initialising, one_tick, goes_on}
 
 -- how long a movement takes
-pub takes : (t : Travel) (d : ℕ) → d ≡ distance_of t.from t.goal → (d * 1000 + (t.speed - 1)) / t.speed ≡ time_of t
-unfolding time_of ticks_for
-takes t d e = rw e
+pub takes : (t : Travel) (d s : ℕ) → d ≡ abs_diff t.goal t.from → s ≡ t.speed → (d * 1000 + (s - 1)) / s ≡ time_of t
+unfolding time_of ticks_for distance_of
+takes t d s e q = rw (e, q)
 
 -- the ticks that are spare lie before the movement's time
 before_its_time : (t : Travel) (most : ℕ) → 0 < spare_of t most → t.ticks + spare_of t most < time_of t
@@ -64,18 +65,9 @@ module _ (t : Travel) (ok : TravelOk t) (most : ℕ) where
           let soon = rw e at (before_its_time t most (omega arith)) in
           not_arrived (since t (t.ticks + suc n)) ok.slow ok.from ok.goal (away t moves (t.ticks + suc n) soon)
 
-  module _ (all : ℕ) (e : all ≡ time_of t) where
-    pub none_spare : all ≤ t.ticks + 1 → Spare t most 0
-    unfolding spare_of
-    none_spare h = record { spare = omega arith; small = omega (arith, ok.ticks) }
-
-    pub some_spare : all - (t.ticks + 1) < most → Spare t most (all - (t.ticks + 1))
-    unfolding spare_of
-    some_spare h = let s = spare_small in record { spare = omega arith; small = omega arith }
-
-    pub most_spare : most ≤ all - (t.ticks + 1) → Spare t most most
-    unfolding spare_of
-    most_spare h = let s = spare_small in record { spare = omega arith; small = omega arith }
+  pub a_spare : (all r : ℕ) → all ≡ time_of t → r ≡ min (all - (t.ticks + 1)) most → Spare t most r
+  unfolding spare_of
+  a_spare all r e h = let s = spare_small in record { spare = omega arith; small = omega arith }
 
   pub later_ok : TravelOk (since t (t.ticks + spare_of t most))
   later_ok = record { from = ok.from; goal = ok.goal; slow = ok.slow; ticks = spare_small }

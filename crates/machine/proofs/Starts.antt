@@ -4,6 +4,7 @@ use mathlib.Core.Path.{◌≡◌, refl}
 use mathlib.Core.Bool.{true, false}
 use mathlib.Core.List.{[], ◌∷◌}
 use Prim.Native.Nat.{ℕ, ◌+◌, ◌-◌, ◌*◌, ◌≤◌, ◌<◌}
+use Rattle.std.specs.Prelude.{None}
 use Rattle.basics.proofs.Rules.{tests}
 use Rattle.settings.specs.declared.Volume.{Volume}
 use Rattle.settings.specs.Units.{millionths_of}
@@ -12,7 +13,6 @@ use Rattle.command.specs.declared.Way.TheVariants.{To, Up, Down}
 use Rattle.motion.specs.declared.Body.{Body}
 use Rattle.motion.specs.declared.Activity.{Activity}
 use Rattle.motion.specs.declared.Effect.{Effect}
-use Rattle.motion.specs.declared.Target.TheVariants.{Outside}
 use Rattle.motion.specs.Events.{start, volume, Turn}
 use Rattle.motion.proofs.Moves.{move_by_lem}
 use Rattle.motion.specs.Motion.{fresh_body, home_of, within, target_of, aimed, move_of, in_motion, cut_of, reset_of}
@@ -42,7 +42,7 @@ module _ (b : Body) where
     a_dispense_is_recorded h k = simp (known, tests)
 
   -- and those that are refused
-  pub a_move_outside_travel_leaves_no_trace : (way : Way) (v : Volume) → target_of way (millionths_of v b.settings.rate) b.exact ≡ Outside → (move_of way v b).events ≡ []
+  pub a_move_outside_travel_leaves_no_trace : (way : Way) (v : Volume) → target_of way (millionths_of v b.settings.rate) b.exact ≡ None → (move_of way v b).events ≡ []
   unfolding move_of aimed
   a_move_outside_travel_leaves_no_trace way v h = move_by_lem (λ (t : Turn Effect). t.events ≡ []) way v b (λ why. refl) (rw h)
 

@@ -4,15 +4,14 @@ use mathlib.Core.Bool.{Bool, true, false}
 use mathlib.Core.List.{List}
 use Prim.Native.Nat.{ℕ}
 use lib.ListN.{take}
+use Rattle.std.specs.Prelude.{Err, None, Ok, Result, Some}
+use Rattle.command.specs.Verdict.{Verdict}
+use Rattle.command.specs.Found.{Found}
 use Rattle.command.specs.declared.Command.{Command}
 use Rattle.command.specs.declared.refusal.Misread.{Misread}
 use Rattle.command.specs.declared.refusal.Refusal.{Refusal}
 use Rattle.command.specs.declared.refusal.Refusal.TheVariants as R
-use Rattle.command.specs.declared.refusal.Verdict.{Verdict}
-use Rattle.command.specs.declared.refusal.Verdict.TheVariants.{Refused}
 use Rattle.command.specs.Numbers.{first_of}
-use Rattle.command.specs.declared.Found.{Found}
-use Rattle.command.specs.declared.Found.TheVariants as F
 use Rattle.command.specs.Command.{command_at}
 use Rattle.motion.specs.declared.Sense.{Sense}
 use Rattle.motion.specs.declared.Body.{Body}
@@ -24,8 +23,6 @@ use Rattle.motion.specs.Motion.{effect_of, onward_of, between}
 use Rattle.buffer.specs.declared.course.State.{State}
 use Rattle.buffer.specs.declared.course.State.TheVariants.{Running}
 use Rattle.buffer.specs.declared.course.Course.{Course}
-use Rattle.buffer.specs.declared.course.Went.{Went}
-use Rattle.buffer.specs.declared.course.Went.TheVariants.{On, Off}
 use Rattle.buffer.specs.Course.{reached, gone_on, failed_of, opened_of, closed_of}
 use Rattle.machine.specs.declared.step.Core.{Core}
 use Rattle.machine.specs.declared.step.News.{News}
@@ -44,14 +41,14 @@ module _ (a b : News) (v : Verdict) (e : v ≡ first_of a.failed b.failed) where
   pub asked_now : a.eject ≡ false → news v b.eject ≡ both_of a b
   asked_now h = rw (e, h)
 
-pub failing : (why : Refusal) (b : Body) (c on : Course) → on ≡ failed_of why c → stepped (core b on) (news (Refused why) false) ≡ fails why b c
+pub failing : (why : Refusal) (b : Body) (c on : Course) → on ≡ failed_of why c → stepped (core b on) (news (Err why) false) ≡ fails why b c
 failing why b c on e = rw e
 
-module _ (g : Went) (b : Body) (c : Course) where
-  pub went_on : (on : Course) (r : Stepped) → g ≡ On on → r ≡ fine (core b on) → r ≡ went_of g b c
+module _ (g : Result Course Refusal) (b : Body) (c : Course) where
+  pub went_on : (on : Course) (r : Stepped) → g ≡ Ok on → r ≡ fine (core b on) → r ≡ went_of g b c
   went_on on r e q = rw e q
 
-  pub went_off : (why : Refusal) (r : Stepped) → g ≡ Off why → r ≡ fails why b c → r ≡ went_of g b c
+  pub went_off : (why : Refusal) (r : Stepped) → g ≡ Err why → r ≡ fails why b c → r ≡ went_of g b c
   went_off why r e q = rw e q
 
 -- what a command does, or a tick of what is in progress
@@ -72,7 +69,7 @@ module _ (e : Effect) (next : ℕ) (c : Core) where
   unfolding applied_of
   asks on r p q h = rw (p, ← q) h
 
-  module _ (g : Went) (r : Stepped) (w : r ≡ went_of g c.body c.course) where
+  module _ (g : Result Course Refusal) (r : Stepped) (w : r ≡ went_of g c.body c.course) where
     pub opens : e ≡ Opens → g ≡ opened_of next c.course → r ≡ applied_of e next c
     unfolding applied_of
     opens p q = rw (p, ← q) w
@@ -83,15 +80,15 @@ module _ (e : Effect) (next : ℕ) (c : Core) where
 
 -- what is found
 module _ (x : Sense) (f : Found) (c : Core) where
-  pub takes : (k : Command) (next : ℕ) (e : Effect) (r : Stepped) → f ≡ F.Command k next → e ≡ (effect_of x k c.body).next → r ≡ applied_of e next c → r ≡ (taken_of x f c).next
+  pub takes : (k : Command) (next : ℕ) (e : Effect) (r : Stepped) → f ≡ Ok (Some (k, next)) → e ≡ (effect_of x k c.body).next → r ≡ applied_of e next c → r ≡ (taken_of x f c).next
   unfolding taken_of
   takes k next e r p q h = rw (p, ← q) h
 
-  pub refuses : (m : Misread) (r : Stepped) → f ≡ F.Refused m → r ≡ fails (R.Misread m) c.body c.course → r ≡ (taken_of x f c).next
+  pub refuses : (m : Misread) (r : Stepped) → f ≡ Err m → r ≡ fails (R.Misread m) c.body c.course → r ≡ (taken_of x f c).next
   unfolding taken_of
   refuses m r p h = rw p h
 
-  pub at_end : (on : Course) (r : Stepped) → f ≡ F.End → on ≡ reached c.course.at c.course.loops c.course → r ≡ fine (core c.body on) → r ≡ (taken_of x f c).next
+  pub at_end : (on : Course) (r : Stepped) → f ≡ Ok None → on ≡ reached c.course.at c.course.loops c.course → r ≡ fine (core c.body on) → r ≡ (taken_of x f c).next
   unfolding taken_of
   at_end on r p h q = rw (p, ← h) q
 

@@ -7,8 +7,8 @@ use native.Mathlib.Omega.{arith}
 use borrow.Author.Tests.{le-leb}
 use lib.ListN.{length, take, drop, length-append}
 use lib.Seq.{take_at, length-take-le}
+use Rattle.std.specs.Prelude.{Ok}
 use Rattle.basics.specs.Lay.{over, fits, laid_in}
-use Rattle.command.specs.declared.refusal.Verdict.TheVariants.{Fine}
 use Rattle.machine.specs.declared.Device.{Device}
 use Rattle.buffer.specs.declared.order.Action.{Action}
 use Rattle.buffer.specs.declared.order.Loading.{Loading}
@@ -33,7 +33,7 @@ take_front xs buf h = let z : 0 + length xs ≡ length xs = omega arith in rw z 
 loaded :
     (l : Loading) (added : List ℕ) (d : Device) (run : Bool) →
     take (kept_of l d.core.course.len + length added) (laid_in added (kept_of l d.core.course.len) d.text) ≡ take (kept_of l d.core.course.len) d.text ++ added →
-    take (acted_of (O.Load l run) Fine (length added) d.core).next.course.len (stored_by (O.Load l run) Fine d.core.course.len added d.text) ≡
+    take (acted_of (O.Load l run) (Ok tt) (length added) d.core).next.course.len (stored_by (O.Load l run) (Ok tt) d.core.course.len added d.text) ≡
     take (kept_of l d.core.course.len) d.text ++ added
 unfolding acted_of done_of stored_by laid_by
 loaded l added d true e = e
@@ -41,7 +41,7 @@ loaded l added d false e = e
 
 -- a string that is loaded, behind the stored text or instead of it: the text is what was kept, and then what came, all of it
 pub a_string_that_is_loaded_is_stored_whole :
-    (a : Action) (added : List ℕ) (d : Device) (l : Loading) (run : Bool) → Ready d.core d.text → verdict_for a added d ≡ Fine →
+    (a : Action) (added : List ℕ) (d : Device) (l : Loading) (run : Bool) → Ready d.core d.text → verdict_for a added d ≡ Ok tt →
     order_of a d.core.course.state ≡ O.Load l run →
     stored_in (act_of a added d).next.device ≡ take (kept_of l d.core.course.len) d.text ++ added
 unfolding act_of

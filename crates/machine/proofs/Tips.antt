@@ -8,7 +8,9 @@ use Prim.Native.Nat.{ℕ, zero, suc, ◌<◌}
 use native.Mathlib.Omega.{arith}
 use lib.Dec.{eqb, leb}
 use lib.ListN.{take, drop}
-use Rattle.std.specs.Prelude.{if◌then◌else◌}
+use Rattle.std.specs.Prelude.{if◌then◌else◌, Err, None, Ok, Option, Result, Some}
+use Rattle.command.specs.Found.{Found}
+use Rattle.buffer.specs.declared.course.Course.{Course}
 use Rattle.basics.specs.Bytes.{every}
 use Rattle.basics.specs.Exactly.{Exactly}
 use Rattle.basics.proofs.Choice.{by}
@@ -20,8 +22,6 @@ use Rattle.command.specs.declared.Way.{Way}
 use Rattle.command.specs.declared.refusal.Refusal.{Refusal}
 use Rattle.command.specs.declared.Command.{Command}
 use Rattle.command.specs.declared.Command.TheVariants as C
-use Rattle.command.specs.declared.Found.{Found}
-use Rattle.command.specs.declared.Found.TheVariants as F
 use Rattle.command.specs.Command.{found_in, command_at}
 use Rattle.command.proofs.Letters.{an_eject_stands_at_an_e}
 use Rattle.motion.specs.declared.Sense.{Sense}
@@ -31,8 +31,6 @@ use Rattle.motion.specs.declared.Activity.TheVariants.{Initialising, Moving, Del
 use Rattle.motion.specs.declared.Effect.{Effect}
 use Rattle.motion.specs.declared.Effect.TheVariants.{Goes, Ends, Fails, Asks, Opens, Closes}
 use Rattle.motion.specs.Events.{Turn}
-use Rattle.motion.specs.declared.Target.{Target}
-use Rattle.motion.specs.declared.Target.TheVariants.{At, Outside}
 use Rattle.motion.specs.Bodies.{later_of, plunger_of}
 use Rattle.level.specs.Level.{pressure_of}
 use Rattle.motion.specs.Detect.{felt_in, detect_of, searched_of}
@@ -40,8 +38,6 @@ use Rattle.motion.specs.Motion.{home_of, set_out, aimed, delay_of, effect_of, ca
 use Rattle.motion.proofs.Moves.{move_by_lem, eject_by_lem, ejected_by, detect_by_lem, approached_by, found_by}
 use Rattle.buffer.specs.declared.course.State.{State}
 use Rattle.buffer.specs.declared.course.State.TheVariants.{Empty, Stored, Running, Stopped, Done}
-use Rattle.buffer.specs.declared.course.Went.{Went}
-use Rattle.buffer.specs.declared.course.Went.TheVariants.{On, Off}
 use Rattle.buffer.specs.Course.{reached, opened_of, closed_of}
 use Rattle.machine.specs.declared.step.Core.{Core}
 use Rattle.machine.specs.declared.step.Stepped.{Stepped}
@@ -64,9 +60,9 @@ asks_of (Closes n) = false
 abbrev Unasking : Effect → Type 0
 Unasking e = asks_of e ≡ false
 
-went_asks_not : (g : Went) (c : Core) → (went_of g c.body c.course).news.eject ≡ false
-went_asks_not (On on) c = refl
-went_asks_not (Off why) c = refl
+went_asks_not : (g : Result Course Refusal) (c : Core) → (went_of g c.body c.course).news.eject ≡ false
+went_asks_not (Ok on) c = refl
+went_asks_not (Err why) c = refl
 
 applied_asks : (e : Effect) (next : ℕ) (c : Core) → (applied_of e next c).news.eject ≡ asks_of e
 unfolding applied_of
@@ -87,10 +83,10 @@ onward_asks_not x (Searching f) b = found_by (λ (e : Turn Effect). Unasking e.n
 onward_asks_not x Ejecting b = ejected_by Unasking x b refl refl
 onward_asks_not x Between b = refl
 
-aimed_asks_not : (g : Target) (way : Way) (v : Volume) (b : Body) → Unasking (aimed g way v b).next
+aimed_asks_not : (g : Option ℕ) (way : Way) (v : Volume) (b : Body) → Unasking (aimed g way v b).next
 unfolding aimed set_out
-aimed_asks_not (At exact) way v b = by Unasking (eqb b.plunger (goal_of exact)) (λ _. refl) (λ _. refl)
-aimed_asks_not Outside way v b = refl
+aimed_asks_not (Some exact) way v b = by Unasking (eqb b.plunger (goal_of exact)) (λ _. refl) (λ _. refl)
+aimed_asks_not None way v b = refl
 
 -- a command that asks is an E
 abbrev AsksAs : Command → Type 0
@@ -126,13 +122,13 @@ module _ (text : List ℕ) (x : Sense) (c : Core) where
 
   taken_ejects : (f : Found) → command_at (take c.course.len text) c.course.at ≡ f → c.course.state ≡ Running Between → (taken_of x f c).next.news.eject ≡ true → Ejects text x c
   unfolding taken_of
-  taken_ejects (F.Command k next) found between h =
+  taken_ejects (Ok (Some (k, next))) found between h =
       let e = sym (applied_asks (effect_of x k c.body).next next c) ∙ h in
       let (bare, is) = effect_asks x k c.body e in
       let takes : Takes text c k = record { next = next; between = between; found = found } in
       record { bare = bare; takes = rw is at takes; granted = granted_by bare (rw is at e) }
-  taken_ejects (F.Refused m) found between h = absurd (false≢true h)
-  taken_ejects F.End found between h = absurd (false≢true h)
+  taken_ejects (Err m) found between h = absurd (false≢true h)
+  taken_ejects (Ok None) found between h = absurd (false≢true h)
 
   carried_asks_not : (a : Activity) → (carried_on x a c).next.news.eject ≡ true → Ejects text x c
   unfolding carried_on
@@ -218,7 +214,7 @@ no_e_behind zero t h = h
 no_e_behind (suc n) [] h = h
 no_e_behind (suc n) (b ∷ t) h = no_e_behind n t (and_both (other_than_e b) (every other_than_e t) h).1
 
-no_eject_found : (at : ℕ) (t : List ℕ) (bare : Bool) (next : ℕ) → NoE t → found_in at t ≡ F.Command (C.Eject bare) next → ⊥
+no_eject_found : (at : ℕ) (t : List ℕ) (bare : Bool) (next : ℕ) → NoE t → found_in at t ≡ Ok (Some (C.Eject bare, next)) → ⊥
 unfolding every found_in
 no_eject_found at [] bare next h e = let z : ◌≡◌ {A = ℕ} 0 1 = cc in omega arith
 no_eject_found at (b ∷ t) bare next h e =
@@ -272,11 +268,11 @@ module _ (text : List ℕ) (x y : Sense) (pressed : x.reading ≡ y.reading) whe
   module _ (c : Core) (apart : AtEject text c → ⊥) where
     taken_same : (f : Found) → command_at (take c.course.len text) c.course.at ≡ f → c.course.state ≡ Running Between → taken_of x f c ≡ taken_of y f c
     unfolding taken_of
-    taken_same (F.Command k next) found between =
+    taken_same (Ok (Some (k, next))) found between =
         ap (λ (t : Turn Effect). applies t next c)
         (effect_same k c.body (λ bare is. let takes : Takes text c k = record { next = next; between = between; found = found } in apart (next_is_one bare (rw is at takes))))
-    taken_same (F.Refused m) found between = refl
-    taken_same F.End found between = refl
+    taken_same (Err m) found between = refl
+    taken_same (Ok None) found between = refl
 
     active_same : (s : State) → c.course.state ≡ s → active_of s (around text x) c ≡ active_of s (around text y) c
     unfolding active_of running_of carried_on onward_of

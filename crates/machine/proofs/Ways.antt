@@ -1,11 +1,12 @@
 -- The ways in which a tick ends: what holds of each of them holds of every tick.
 use Prim.Native.Nat.{ℕ}
 use lib.ListN.{take}
+use Rattle.std.specs.Prelude.{Err, None, Ok, Result, Some}
+use Rattle.command.specs.Found.{Found}
+use Rattle.buffer.specs.declared.course.Course.{Course}
 use Rattle.basics.proofs.Choice.{by}
 use Rattle.command.specs.declared.refusal.Refusal.{Refusal}
 use Rattle.command.specs.declared.refusal.Refusal.TheVariants as R
-use Rattle.command.specs.declared.Found.{Found}
-use Rattle.command.specs.declared.Found.TheVariants as F
 use Rattle.command.specs.Command.{command_at}
 use Rattle.motion.specs.declared.Body.{Body}
 use Rattle.motion.specs.declared.Activity.{Activity}
@@ -17,7 +18,6 @@ use Rattle.motion.specs.Motion.{effect_of, onward_of, between}
 use Rattle.buffer.specs.declared.course.State.{State}
 use Rattle.buffer.specs.declared.course.State.TheVariants.{Empty, Stored, Running, Stopped, Done}
 use Rattle.buffer.specs.declared.course.Loops.{Loops}
-use Rattle.buffer.specs.declared.course.Went.{Went}
 use Rattle.buffer.specs.Course.{reached, gone_on}
 use Rattle.machine.specs.declared.step.Core.{Core}
 use Rattle.machine.specs.declared.step.Stepped.{Stepped}
@@ -40,15 +40,15 @@ module _ (P : Stepped → Type 0) (c : Core) where
     applied_by (Ends b) next = ways.ends b next c.course.loops
     applied_by (Fails why b) next = ways.breaks why b
     applied_by Asks next = ways.asks next
-    applied_by Opens next = behind_open (λ (g : Went). P (went_of g c.body c.course)) c.course (ways.ends c.body) (ways.breaks R.Loops c.body) next
-    applied_by (Closes n) next = behind_close (λ (g : Went). P (went_of g c.body c.course)) c.course (ways.ends c.body) (ways.breaks R.Loops c.body) n next
+    applied_by Opens next = behind_open (λ (g : Result Course Refusal). P (went_of g c.body c.course)) c.course (ways.ends c.body) (ways.breaks R.Loops c.body) next
+    applied_by (Closes n) next = behind_close (λ (g : Result Course Refusal). P (went_of g c.body c.course)) c.course (ways.ends c.body) (ways.breaks R.Loops c.body) n next
 
     module _ (w : Around) where
       taken_by : (f : Found) → P (taken_of w.sense f c).next
       unfolding taken_of
-      taken_by (F.Command k next) = applied_by (effect_of w.sense k c.body).next next
-      taken_by (F.Refused m) = ways.breaks (R.Misread m) c.body
-      taken_by F.End = ways.ends c.body c.course.at c.course.loops
+      taken_by (Ok (Some (k, next))) = applied_by (effect_of w.sense k c.body).next next
+      taken_by (Err m) = ways.breaks (R.Misread m) c.body
+      taken_by (Ok None) = ways.ends c.body c.course.at c.course.loops
 
       active_by : (s : State) → P (active_of s w c).next
       unfolding active_of running_of carried_on

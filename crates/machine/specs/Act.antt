@@ -1,7 +1,6 @@
 -- 01, "The buffer": what strings and controls do to the plunger and the buffer.
-use Rattle.std.specs.Prelude.{ℕ, ◌≤◌, ◌≡◌, Bool, List, length, take, if◌then◌else◌}
-use Rattle.command.specs.declared.refusal.Verdict.{Verdict}
-use Rattle.command.specs.declared.refusal.Verdict.TheVariants.{Fine, Refused}
+use Rattle.std.specs.Prelude.{ℕ, ◌≤◌, ◌≡◌, Bool, List, length, take, if◌then◌else◌, Err, Ok}
+use Rattle.command.specs.Verdict.{Verdict}
 use Rattle.command.specs.Numbers.{refusal_number}
 use Rattle.motion.specs.declared.Activity.TheVariants.{Between}
 use Rattle.motion.specs.Events.{Turn, quiet}
@@ -53,12 +52,12 @@ abbrev pub core_error : ℕ → ℕ → Core → Core
 core_error code column c = core c.body (with_error code column c.course)
 
 unfoldable pub acted_of : Order → Verdict → ℕ → Core → Turn Core
-acted_of order Fine n c = let t = done_of order n c in record { next = core_error 0 0 t.next; events = t.events }
-acted_of order (Refused why) n c = quiet (core_error (refusal_number why) 0 c)
+acted_of order (Ok tt) n c = let t = done_of order n c in record { next = core_error 0 0 t.next; events = t.events }
+acted_of order (Err why) n c = quiet (core_error (refusal_number why) 0 c)
 
 -- what is accepted fits
 pub record Fitting (order : Order) (verdict : Verdict) (len n : ℕ) : Type 0 where
-  pub fits : verdict ≡ Fine → length_by order len n ≤ 256
+  pub fits : verdict ≡ Ok tt → length_by order len n ≤ 256
 
 -- whether an order is refused, over a text of so many characters (a private function's promise)
 pub record Judged (order : Order) (text added : List ℕ) (len : ℕ) (verdict : Verdict) : Type 0 where

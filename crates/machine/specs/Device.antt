@@ -1,12 +1,12 @@
 -- The text's array and the core together: what the host calls.
-use Rattle.std.specs.Prelude.{ℕ, Bool, false, List, ltb, eqb, replicate, if◌then◌else◌}
+use Rattle.std.specs.Prelude.{ℕ, Bool, false, List, ltb, eqb, replicate, if◌then◌else◌, Err, Ok}
+use Rattle.machine.specs.Used.{s3}
 use Rattle.motion.specs.declared.Sense.{Sense}
 use Rattle.motion.specs.Events.{Turn}
 use Rattle.motion.specs.Motion.{fresh_body}
 use Rattle.buffer.specs.declared.course.State.TheVariants.{Empty}
 use Rattle.machine.specs.declared.step.Core.{Core}
 use Rattle.machine.specs.declared.Device.{Device}
-use Rattle.machine.specs.declared.Used.TheVariants.{Ticks, S3}
 use Rattle.machine.specs.declared.Ran.{Ran}
 use Rattle.buffer.specs.Course.{course_of, no_loops}
 use Rattle.machine.specs.declared.step.Stepped.{Stepped}
@@ -43,5 +43,5 @@ advance_of n s d = turned n s d (ticks_of n (around d.text s) (fine d.core))
 unfoldable pub ran_of : ℕ → Sense → Device → Ran
 ran_of n s d =
     if ltb 60000 n
-    then record { turned = turned 0 s d (fine d.core); used = S3 }
-    else (let k = used_of n (around d.text s) (fine d.core) in record { turned = advance_of k s d; used = Ticks k })
+    then record { turned = turned 0 s d (fine d.core); used = Err s3 }
+    else (let k = used_of n (around d.text s) (fine d.core) in record { turned = advance_of k s d; used = Ok k })

@@ -1,3 +1,4 @@
+pub mod Used
 pub mod Step
 pub mod Run
 pub mod Act

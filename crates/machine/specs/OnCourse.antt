@@ -1,18 +1,16 @@
 -- On course: what holds of every device that comes from making and earlier calls. No function asks for it.
-use Rattle.std.specs.Prelude.{ℕ, ◌+◌, ◌≤◌, ◌<◌, ◌≡◌, Bool, true, false, List, [], ◌∷◌, length, take}
+use Rattle.std.specs.Prelude.{ℕ, ◌+◌, ◌≤◌, ◌<◌, ◌≡◌, Bool, true, false, List, [], ◌∷◌, length, take, None, Ok, Some}
 use Rattle.command.specs.declared.refusal.Refusal.{Refusal}
 use Rattle.command.specs.declared.refusal.Refusal.TheVariants as R
 use Rattle.motion.specs.declared.Sense.{Sense}
 use Rattle.motion.specs.declared.Activity.{Activity}
 use Rattle.motion.specs.declared.Activity.TheVariants.{Initialising, Moving, Delaying, Approaching, Searching, Ejecting, Between}
 use Rattle.motion.specs.declared.Body.{Body}
-use Rattle.motion.specs.declared.Target.TheVariants.{Outside}
 use Rattle.motion.specs.Motion.{target_of, between}
 use Rattle.motion.specs.declared.Travel.{Travel}
 use Rattle.motion.specs.Bodies.{later_of, plunger_of, body_at}
 use Rattle.motion.specs.Detect.{felt_in, no_way_down, settled_at}
 use Rattle.level.specs.declared.Search.{Search}
-use Rattle.level.specs.declared.Pressure.TheVariants.{Beyond}
 use Rattle.level.specs.declared.Finding.TheVariants.{Missed}
 use Rattle.level.specs.Level as Level
 use Rattle.level.specs.Level.{plunger_in, finding_of}
@@ -21,7 +19,6 @@ use Rattle.settings.specs.Units.{millionths_of}
 use Rattle.command.specs.declared.Way.{Way}
 use Rattle.command.specs.declared.Command.{Command}
 use Rattle.command.specs.declared.Command.TheVariants as C
-use Rattle.command.specs.declared.Found.TheVariants as F
 use Rattle.command.specs.Command.{command_at}
 use Rattle.text.specs.Text.{Step, reads, read_of}
 use Rattle.text.specs.Loops.{opens, closes, part_of}
@@ -119,7 +116,7 @@ pub record HasItsG (t : List ℕ) (s : Step) (n : ℕ) (l : Loops) : Type 0 wher
 pub record Meets (text : List ℕ) (c : Course) : Type 0 where
   pub command : Command
   pub next : ℕ
-  pub found : command_at (take c.len text) c.at ≡ F.Command command next
+  pub found : command_at (take c.len text) c.at ≡ Ok (Some (command, next))
   pub shallow : part_of command ≡ opens → c.loops.depth < 4
   pub back : (n : ℕ) → part_of command ≡ closes n → HasItsG (take c.len text) (record { at = c.at; command = command; next = next }) n c.loops
 
@@ -130,21 +127,21 @@ pub data Failing (s : Sense) (k : Command) (b : Body) : Refusal → Type 0 where
   steep : (way : Way) (v : Volume) → k ≡ C.Move way v → b.initialised ≡ true → b.settings.top < b.settings.start → Failing s k b R.StartAboveTop
   outside :
       (way : Way) (v : Volume) → k ≡ C.Move way v → b.initialised ≡ true → b.settings.start ≤ b.settings.top →
-      target_of way (millionths_of v b.settings.rate) b.exact ≡ Outside → Failing s k b R.Outside
+      target_of way (millionths_of v b.settings.rate) b.exact ≡ None → Failing s k b R.Outside
   -- 02, W-203: "10 for E0 without a tip; 7 for E1 uninitialised"
   tipless : k ≡ C.Eject false → s.tip ≡ false → Failing s k b R.NoTip
   unready : k ≡ C.Eject true → b.initialised ≡ false → Failing s k b R.NotInitialised
   -- 02, W-206: "in the run, in this order, 7 uninitialised, 3 for p5 of 1 with p2 of 0, 5 for a reading outside -32767 to 32767"
   unknown : (here : Bool) → k ≡ C.Detect here → b.initialised ≡ false → Failing s k b R.NotInitialised
   no_way : (here : Bool) → k ≡ C.Detect here → b.initialised ≡ true → no_way_down b.settings.detection ≡ true → Failing s k b R.NoWayDown
-  no_zero : (here : Bool) → k ≡ C.Detect here → b.initialised ≡ true → no_way_down b.settings.detection ≡ false → felt_in s ≡ Beyond → Failing s k b R.TooMuchPressure
+  no_zero : (here : Bool) → k ≡ C.Detect here → b.initialised ≡ true → no_way_down b.settings.detection ≡ false → felt_in s ≡ None → Failing s k b R.TooMuchPressure
 
 -- and what is in progress and fails: "a tip still there is then an eject failure"
 pub data Breaking (s : Sense) (b : Body) : Activity → Refusal → Type 0 where
   still_there : s.tip ≡ true → Breaking s b Ejecting R.StillThere
   -- 02, W-206: "5 .. in any tick from the one that takes B, 6 when p4 increments or the end of travel are reached in a tick without a find"
-  halted_move : (t : Travel) (z : ℕ) → felt_in s ≡ Beyond → Breaking s b (Approaching t z) R.TooMuchPressure
-  too_much : (f : Search) → felt_in s ≡ Beyond → Breaking s b (Searching f) R.TooMuchPressure
+  halted_move : (t : Travel) (z : ℕ) → felt_in s ≡ None → Breaking s b (Approaching t z) R.TooMuchPressure
+  too_much : (f : Search) → felt_in s ≡ None → Breaking s b (Searching f) R.TooMuchPressure
   no_liquid : (f : Search) → finding_of b.settings.detection (Level.later_of f) (felt_in s) ≡ Missed → Breaking s b (Searching f) R.NoLiquid
 
 -- what is left of the body: B moves the plunger first, and ends "as a start at the plunger"; all else fails with the body as it was
@@ -168,7 +165,7 @@ left_in Done b = b
 pub record Takes (text : List ℕ) (c : Core) (k : Command) : Type 0 where
   pub next : ℕ
   pub between : c.course.state ≡ Running Between
-  pub found : command_at (take c.course.len text) c.course.at ≡ F.Command k next
+  pub found : command_at (take c.course.len text) c.course.at ≡ Ok (Some (k, next))
 
 -- why a run fails in a tick: in the command that it takes, or in what is in progress
 pub data Cause (text : List ℕ) (s : Sense) (c : Core) (why : Refusal) : Type 0 where

@@ -1,6 +1,6 @@
 -- 01, "The buffer": which cells of the table refuse with which number, told apart from what the others do.
 use Rattle.std.specs.Prelude.{ℕ, ◌≤◌, ◌<◌, true, false, List, [], ◌++◌, length, take}
-use Rattle.command.specs.declared.refusal.Verdict.{Verdict}
+use Rattle.command.specs.Verdict.{Verdict}
 use Rattle.command.specs.Numbers.{verdict_number}
 use Rattle.text.specs.Text.{Reading, reads, wrong, read_of}
 use Rattle.text.specs.Loops.{Accepted}

@@ -1,11 +1,9 @@
 -- 01, "Ticks, volume and motion": one tick.
-use Rattle.std.specs.Prelude.{ℕ, Bool, true, false, ◌||◌, List, take, if◌then◌else◌}
+use Rattle.std.specs.Prelude.{ℕ, Bool, true, false, ◌||◌, List, take, if◌then◌else◌, Err, None, Ok, Result, Some}
+use Rattle.command.specs.Verdict.{Verdict}
+use Rattle.command.specs.Found.{Found}
 use Rattle.command.specs.declared.refusal.Refusal.{Refusal}
 use Rattle.command.specs.declared.refusal.Refusal.TheVariants as R
-use Rattle.command.specs.declared.refusal.Verdict.{Verdict}
-use Rattle.command.specs.declared.refusal.Verdict.TheVariants.{Fine, Refused}
-use Rattle.command.specs.declared.Found.{Found}
-use Rattle.command.specs.declared.Found.TheVariants as F
 use Rattle.command.specs.Numbers.{first_of}
 use Rattle.command.specs.Command.{command_at}
 use Rattle.motion.specs.declared.Sense.{Sense}
@@ -19,8 +17,6 @@ use Rattle.motion.specs.Motion.{effect_of, onward_of, between}
 use Rattle.buffer.specs.declared.course.State.{State}
 use Rattle.buffer.specs.declared.course.State.TheVariants.{Empty, Stored, Running, Stopped, Done}
 use Rattle.buffer.specs.declared.course.Course.{Course}
-use Rattle.buffer.specs.declared.course.Went.{Went}
-use Rattle.buffer.specs.declared.course.Went.TheVariants.{On, Off}
 use Rattle.buffer.specs.Course.{reached, gone_on, failed_of, opened_of, closed_of}
 use Rattle.machine.specs.declared.step.Core.{Core}
 use Rattle.machine.specs.declared.step.News.{News}
@@ -42,7 +38,7 @@ abbrev pub news : Verdict → Bool → News
 news v eject = record { failed = v; eject = eject }
 
 abbrev pub no_news : News
-no_news = news Fine false
+no_news = news (Ok tt) false
 
 -- of two steps, one after the other: the first failure counts, and either may ask
 abbrev pub both_of : News → News → News
@@ -57,16 +53,16 @@ fine c = stepped c no_news
 
 -- 02, W-203: "asks the host to eject"
 abbrev pub asking : Core → Stepped
-asking c = stepped c (news Fine true)
+asking c = stepped c (news (Ok tt) true)
 
 -- "A refusal in a run sets the last error to its code and erases the text (Empty)"
 abbrev pub fails : Refusal → Body → Course → Stepped
-fails why b c = stepped (core b (failed_of why c)) (news (Refused why) false)
+fails why b c = stepped (core b (failed_of why c)) (news (Err why) false)
 
 -- g and G: the run goes on, or fails
-abbrev pub went_of : Went → Body → Course → Stepped
-went_of (On on) b c = fine (core b on)
-went_of (Off why) b c = fails why b c
+abbrev pub went_of : Result Course Refusal → Body → Course → Stepped
+went_of (Ok on) b c = fine (core b on)
+went_of (Err why) b c = fails why b c
 
 -- what a command that is taken does, or a tick of what is in progress, the next command standing at a place
 unfoldable pub applied_of : Effect → ℕ → Core → Stepped
@@ -82,9 +78,9 @@ applies t next c = record { next = applied_of t.next next c; events = t.events }
 
 -- "Running between commands, a tick takes one command, g and G included."
 unfoldable pub taken_of : Sense → Found → Core → Turn Stepped
-taken_of s (F.Command k next) c = applies (effect_of s k c.body) next c
-taken_of s (F.Refused m) c = quiet (fails (R.Misread m) c.body c.course)
-taken_of s F.End c = quiet (fine (core c.body (reached c.course.at c.course.loops c.course)))
+taken_of s (Ok (Some (k, next))) c = applies (effect_of s k c.body) next c
+taken_of s (Err m) c = quiet (fails (R.Misread m) c.body c.course)
+taken_of s (Ok None) c = quiet (fine (core c.body (reached c.course.at c.course.loops c.course)))
 
 -- "Movement and delay advance from the next tick."
 unfoldable pub carried_on : Sense → Activity → Core → Turn Stepped

@@ -30,46 +30,18 @@ fn judge(order: Order, text: &[u8], len: usize, added: &[u8]) -> Verdict
 }
 
 impl Core {
-    // T: what is in progress is cut or dropped.
-    fn cut(self, activity: Activity) -> Core
-        ensures { result ≡ (halt_of (State.Running activity) self).next }
-    {
-        let body = self.body;
-        let course = self.course;
-        let after = body.cut(activity);
-        let off = course.halt();
-        Core {
-            body: after,
-            course: off,
-        }
-    }
-
     // T.
+    #[tactic(auto, unfolding(crate::specs::Act::stop_of, crate::specs::Act::halt_of))]
     pub fn stop(self) -> Core
         ensures { result ≡ (stop_of self).next }
     {
-        let course = self.course;
-        let state = course.state;
-        match state {
-            State::Empty => self,
-            State::Stored => self,
-            State::Running(activity) => self.cut(activity),
-            State::Stopped => self,
-            State::Done => self,
-        }
-    }
-
-    // !R.
-    fn reset(self) -> Core
-        ensures { result ≡ (changed_of Change.Reset self).next }
-    {
-        let body = self.body;
-        let course = self.course;
-        let after = body.reset();
-        let off = course.erase();
-        Core {
-            body: after,
-            course: off,
+        match self.course.state {
+            // What is in progress is cut or dropped.
+            State::Running(activity) => Core {
+                body: self.body.cut(activity),
+                course: self.course.halt(),
+            },
+            _ => self,
         }
     }
 
@@ -77,81 +49,48 @@ impl Core {
     fn on(self, course: Course) -> Core
         ensures { result ≡ core self.body course }
     {
-        let body = self.body;
-        Core { body, course }
+        Core { course, ..self }
     }
 
     // A text of so many characters runs, or waits.
     fn load(self, run: bool, len: usize) -> Core
         ensures { result ≡ core self.body (if run then begun len self.course else waiting len self.course) }
     {
-        let course = self.course;
-        if run {
-            return self.on(course.begin(len));
-        }
-        self.on(course.wait(len))
+        self.on(if run {
+            self.course.begin(len)
+        } else {
+            self.course.wait(len)
+        })
     }
 
-    // The text runs from its start.
-    fn start(self) -> Core
-        ensures { result ≡ (changed_of Change.Begin self).next }
-    {
-        let course = self.course;
-        let len = course.len;
-        self.on(course.begin(len))
-    }
-
-    fn resume(self) -> Core
-        ensures { result ≡ (changed_of Change.Resume self).next }
-    {
-        let course = self.course;
-        self.on(course.in_state(State::Running(Activity::Between)))
-    }
-
-    // R in a delay.
-    fn end_delay(self) -> Core
-        ensures { result ≡ (changed_of Change.EndDelay self).next }
-    {
-        let course = self.course;
-        let at = course.at;
-        let loops = course.loops;
-        self.on(course.reach(at, loops))
-    }
-
-    fn clear(self) -> Core
-        ensures { result ≡ (changed_of Change.Erase self).next }
-    {
-        let course = self.course;
-        self.on(course.erase())
-    }
-
+    #[tactic(auto, unfolding(crate::specs::Act::changed_of))]
     fn change(self, change: Change) -> Core
         ensures { result ≡ (changed_of change self).next }
     {
+        let course = self.course;
         match change {
-            Change::Begin => self.start(),
-            Change::Resume => self.resume(),
-            Change::EndDelay => self.end_delay(),
-            Change::Repeat => self.start(),
-            Change::Erase => self.clear(),
+            // The text runs from its start.
+            Change::Begin | Change::Repeat => self.on(course.begin(course.len)),
+            Change::Resume => self.on(course.in_state(State::Running(Activity::Between))),
+            Change::EndDelay => self.on(course.reach(course.at, course.loops)),
+            Change::Erase => self.on(course.erase()),
             Change::Halt => self.stop(),
-            Change::Reset => self.reset(),
+            Change::Reset => Core {
+                body: self.body.reset(),
+                course: course.erase(),
+            },
         }
     }
 
     // An accepted order, with n characters.
+    #[tactic(auto, unfolding(crate::specs::Act::done_of))]
     fn done(self, order: Order, n: usize) -> Core
         requires { length_by order self.course.len n ≤ 256 }
         ensures { result ≡ (done_of order n self).next }
     {
-        let course = self.course;
         match order {
             Order::Refuse(_) => self,
-            Order::Load(loading, run) => {
-                let kept = loading.kept(course.len);
-                let len = kept + n;
-                self.load(run, len)
-            }
+            Order::Load(loading, run) => self.load(run, loading.kept(self.course.len) + n),
             Order::Change(change) => self.change(change),
         }
     }
@@ -159,18 +98,18 @@ impl Core {
     pub fn with_error(self, code: u8, column: u32) -> Core
         ensures { result ≡ core_error code column self }
     {
-        let course = self.course;
-        self.on(course.with_error(code, column))
+        self.on(self.course.with_error(code, column))
     }
 
     // An order that was accepted or refused, with n characters.
+    #[tactic(auto, unfolding(crate::specs::Act::acted_of))]
     fn acted(self, order: Order, verdict: Verdict, n: usize) -> Core
         requires { Fitting order verdict self.course.len n }
         ensures { result ≡ (acted_of order verdict n self).next }
     {
         match verdict {
-            Verdict::Fine => self.done(order, n).with_error(0, 0),
-            Verdict::Refused(why) => self.with_error(why.number(), 0),
+            Ok(()) => self.done(order, n).with_error(0, 0),
+            Err(why) => self.with_error(why.number(), 0),
         }
     }
 
@@ -179,13 +118,13 @@ impl Core {
         requires { Valid self }
         ensures { Acts action added.now text.old self text.new result }
     {
-        let course = self.course;
-        let state = course.state;
-        let len = course.len;
-        let order = action.order(state);
+        let len = self.course.len;
+        let order = action.order(self.course.state);
         let verdict = judge(order, text, len, added);
         order::store(order, verdict, len, added, text);
-        let core = self.acted(order, verdict, added.len());
-        Done { core, verdict }
+        Done {
+            core: self.acted(order, verdict, added.len()),
+            verdict,
+        }
     }
 }

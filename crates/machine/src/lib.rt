@@ -7,12 +7,11 @@ pub mod step;
 
 ghost use Rattle.std.specs.Prelude.{◌≡◌};
 ghost use Rattle.machine.specs.Valid.{Valid};
-ghost use Rattle.machine.specs.Device.{device, tip_after, fresh_of, tick_of, halted_of, advance_of, ran_of};
+ghost use Rattle.machine.specs.Device.{turned, tip_after, fresh_of, tick_of, halted_of, advance_of, ran_of};
 
 use buffer::course::{Course, Loops, State};
-use command::refusal::Verdict;
 use motion::{Body, Sense};
-use step::{Core, News};
+use step::{Core, News, Stepped};
 
 // The text's array stands beside the state, and whether the last tick saw a tip.
 #[derive(Clone, Copy)]
@@ -22,12 +21,9 @@ pub struct Device {
     pub core: Core,
 }
 
-// How many ticks a run used, or that it asked for more than 60000.
+// A run asked for more than 60000 ticks.
 #[derive(Clone, Copy)]
-pub enum Used {
-    Ticks(u32),
-    S3,
-}
+pub struct S3;
 
 // A device after ticks, and what they tell.
 #[derive(Clone, Copy)]
@@ -39,41 +35,40 @@ pub struct Turned {
 #[derive(Clone, Copy)]
 pub struct Ran {
     pub turned: Turned,
-    pub used: Used,
+    pub used: Result<u32, S3>,
 }
 
 // The tip of the last tick, after n more.
 pub fn tip_after(n: u32, sense: Sense, before: bool) -> bool
     ensures { result ≡ tip_after n sense before }
 {
-    if n == 0 {
-        return before;
-    }
-    sense.tip
+    if n == 0 { before } else { sense.tip }
 }
 
 impl Device {
+    #[tactic(auto, unfolding(crate::specs::Device::fresh_of))]
     pub fn fresh() -> Device
         ensures { result ≡ fresh_of.next }
     {
-        let body = Body::fresh();
-        let loops = Loops::none();
-        let course = Course {
-            at: 0,
-            len: 0,
-            loops,
-            state: State::Empty,
-            error: 0,
-            misread: 0,
-        };
         Device {
-            text: [0u8; 256],
+            text: [0; 256],
             tip: false,
-            core: Core { body, course },
+            core: Core {
+                body: Body::fresh(),
+                course: Course {
+                    at: 0,
+                    len: 0,
+                    loops: Loops::none(),
+                    state: State::Empty,
+                    error: 0,
+                    misread: 0,
+                },
+            },
         }
     }
 
     // A tick of 10 ms.
+    #[tactic(auto, using(crate::proofs::Devices::is_ticked))]
     pub fn tick(self, sense: Sense) -> Turned
         requires { Valid self.core }
         ensures { result ≡ (tick_of sense self).next }
@@ -81,29 +76,31 @@ impl Device {
         self.advance(1, sense)
     }
 
+    // After so many ticks, which left this.
+    fn turned(self, ticks: u32, sense: Sense, stepped: Stepped) -> Turned
+        ensures { result ≡ turned ticks sense self stepped }
+    {
+        Turned {
+            device: Device {
+                tip: tip_after(ticks, sense, self.tip),
+                core: stepped.core,
+                ..self
+            },
+            news: stepped.news,
+        }
+    }
+
     // Exactly n ticks, ready or not, the host sensing the same in each.
+    #[tactic(auto, using(crate::proofs::Devices::is_advanced))]
     pub fn advance(self, n: u32, sense: Sense) -> Turned
         requires { Valid self.core }
         ensures { result ≡ advance_of n sense self }
     {
-        let text = self.text;
-        let core = self.core;
-        let tip = tip_after(n, sense, self.tip);
-        let ticked = step::run(core, &text, n, sense);
-        let stepped = ticked.stepped;
-        let after = stepped.core;
-        let news = stepped.news;
-        Turned {
-            device: Device {
-                text,
-                tip,
-                core: after,
-            },
-            news,
-        }
+        self.turned(n, sense, step::run(self.core, &self.text, n, sense).stepped)
     }
 
     // Up to n ticks, until ready.
+    #[tactic(auto, using(crate::proofs::Devices::is_refused, crate::proofs::Devices::is_run))]
     pub fn run(self, n: u32, sense: Sense) -> Ran
         requires { Valid self.core }
         ensures { result ≡ ran_of n sense self }
@@ -112,46 +109,26 @@ impl Device {
             return Ran {
                 turned: Turned {
                     device: self,
-                    news: News {
-                        failed: Verdict::Fine,
-                        eject: false,
-                    },
+                    news: News::none(),
                 },
-                used: Used::S3,
+                used: Err(S3),
             };
         }
-        let text = self.text;
-        let core = self.core;
-        let ran = step::run(core, &text, n, sense);
-        let stepped = ran.stepped;
-        let after = stepped.core;
-        let news = stepped.news;
-        let used = ran.used;
-        let tip = tip_after(used, sense, self.tip);
+        let ran = step::run(self.core, &self.text, n, sense);
         Ran {
-            turned: Turned {
-                device: Device {
-                    text,
-                    tip,
-                    core: after,
-                },
-                news,
-            },
-            used: Used::Ticks(used),
+            turned: self.turned(ran.used, sense, ran.stepped),
+            used: Ok(ran.used),
         }
     }
 
     // T.
+    #[tactic(auto, unfolding(crate::specs::Device::halted_of))]
     pub fn stop(self) -> Device
         ensures { result ≡ (halted_of self).next }
     {
-        let text = self.text;
-        let core = self.core;
-        let after = core.stop();
         Device {
-            text,
-            tip: self.tip,
-            core: after,
+            core: self.core.stop(),
+            ..self
         }
     }
 }

@@ -1,13 +1,13 @@
 // One tick, and many.
 ghost use Rattle.std.specs.Prelude.{◌≡◌, ◌≤◌, length, take};
 ghost use Rattle.command.specs.Command.{command_at};
-ghost use Rattle.machine.specs.Step.{around, both_of, fine, asking, fails, went_of, applied_of, taken_of, carried_on, running_of, step_of, next_of};
+ghost use Rattle.machine.specs.Step.{around, both_of, no_news, fine, asking, fails, went_of, applied_of, taken_of, carried_on, running_of, step_of, next_of};
 ghost use Rattle.machine.specs.Run.{ready_of, run_of};
 ghost use Rattle.machine.specs.Skip.{leapt_of};
 ghost use Rattle.machine.specs.Valid.{Ticking, Ready};
 ghost use Rattle.motion.specs.Bounds.{BodyOk, ActivityOk};
 
-use buffer::course::{Course, State, Went};
+use buffer::course::{Course, State};
 use command::Found;
 use command::refusal::{Refusal, Verdict};
 use motion::{Activity, Body, Effect, Sense};
@@ -51,52 +51,57 @@ fn command_in(text: &[u8], len: usize, at: usize) -> Found
 fn fail(why: Refusal, body: Body, course: Course) -> Stepped
     ensures { result ≡ fails why body course }
 {
-    let off = course.failed(why);
     Stepped {
-        core: Core { body, course: off },
+        core: Core {
+            body,
+            course: course.failed(why),
+        },
         news: News {
-            failed: Verdict::Refused(why),
+            failed: Err(why),
             eject: false,
         },
     }
 }
 
 // The run goes on, or fails, by its loops.
-fn went(went: Went, body: Body, course: Course) -> Stepped
+fn went(went: Result<Course, Refusal>, body: Body, course: Course) -> Stepped
     ensures { result ≡ went_of went body course }
 {
     match went {
-        Went::On(on) => Core { body, course: on }.fine(),
-        Went::Off(why) => fail(why, body, course),
+        Ok(on) => Core { body, course: on }.fine(),
+        Err(why) => fail(why, body, course),
     }
 }
 
 impl News {
+    pub fn none() -> News
+        ensures { result ≡ no_news }
+    {
+        News {
+            failed: Ok(()),
+            eject: false,
+        }
+    }
+
     // Of two ticks, one after the other: the first failure counts, and either may ask.
     fn and(self, later: News) -> News
         ensures { result ≡ both_of self later }
     {
-        let before = self.failed;
-        let now = later.failed;
         News {
-            failed: before.first(now),
+            failed: self.failed.and(later.failed),
             eject: self.eject || later.eject,
         }
     }
 }
 
 impl Core {
+    #[tactic(auto, unfolding(crate::specs::Run::ready_of))]
     pub fn ready(self) -> bool
         ensures { result ≡ ready_of self }
     {
-        let course = self.course;
-        let state = course.state;
-        match state {
-            State::Empty => true,
-            State::Stored => true,
+        match self.course.state {
             State::Running(_) => false,
-            State::Stopped => true,
-            State::Done => true,
+            _ => true,
         }
     }
 
@@ -105,10 +110,7 @@ impl Core {
     {
         Stepped {
             core: self,
-            news: News {
-                failed: Verdict::Fine,
-                eject: false,
-            },
+            news: News::none(),
         }
     }
 
@@ -119,74 +121,65 @@ impl Core {
         Stepped {
             core: self,
             news: News {
-                failed: Verdict::Fine,
+                failed: Ok(()),
                 eject: true,
             },
         }
     }
 
     // What a command does, or a tick of what is in progress, the next command standing at `next`.
+    #[tactic(auto, unfolding(crate::specs::Step::applied_of))]
     fn apply(self, effect: Effect, next: usize) -> Stepped
         ensures { result ≡ applied_of effect next self }
     {
-        let body = self.body;
-        let course = self.course;
+        let Core { body, course } = self;
         match effect {
-            Effect::Goes(after, activity) => {
-                let on = course.go_on(activity, next);
-                Core {
-                    body: after,
-                    course: on,
-                }
-                .fine()
+            Effect::Goes(after, activity) => Core {
+                body: after,
+                course: course.go_on(activity, next),
             }
-            Effect::Ends(after) => {
-                let loops = course.loops;
-                let on = course.reach(next, loops);
-                Core {
-                    body: after,
-                    course: on,
-                }
-                .fine()
+            .fine(),
+            Effect::Ends(after) => Core {
+                body: after,
+                course: course.reach(next, course.loops),
             }
+            .fine(),
             Effect::Fails(why, after) => fail(why, after, course),
-            Effect::Asks => {
-                let on = course.go_on(Activity::Ejecting, next);
-                Core { body, course: on }.asking()
+            Effect::Asks => Core {
+                body,
+                course: course.go_on(Activity::Ejecting, next),
             }
+            .asking(),
             Effect::Opens => went(course.open(next), body, course),
             Effect::Closes(n) => went(course.close(n, next), body, course),
         }
     }
 
     // The next command is taken.
+    #[tactic(auto, unfolding(crate::specs::Step::taken_of))]
     fn take(self, found: Found, sense: Sense) -> Stepped
         requires { BodyOk self.body }
         ensures { result ≡ (taken_of sense found self).next }
     {
-        let body = self.body;
-        let course = self.course;
+        let Core { body, course } = self;
         match found {
-            Found::Command(c, next) => self.apply(body.effect(c, sense), next),
-            Found::Refused(m) => fail(Refusal::Misread(m), body, course),
-            Found::End => {
-                let at = course.at;
-                let loops = course.loops;
-                let on = course.reach(at, loops);
-                Core { body, course: on }.fine()
+            Ok(Some((c, next))) => self.apply(body.effect(c, sense), next),
+            Ok(None) => Core {
+                body,
+                course: course.reach(course.at, course.loops),
             }
+            .fine(),
+            Err(m) => fail(Refusal::Misread(m), body, course),
         }
     }
 
     // What is in progress goes on.
+    #[tactic(auto, unfolding(crate::specs::Step::carried_on))]
     fn carry_on(self, activity: Activity, sense: Sense) -> Stepped
         requires { ActivityOk activity }
         ensures { result ≡ (carried_on sense activity self).next }
     {
-        let body = self.body;
-        let course = self.course;
-        let at = course.at;
-        self.apply(body.onward(activity, sense), at)
+        self.apply(self.body.onward(activity, sense), self.course.at)
     }
 
     // The command at the place that the course has reached.
@@ -194,72 +187,63 @@ impl Core {
         requires { BodyOk self.body × (self.course.len ≤ length text.now) }
         ensures { result ≡ (taken_of sense (command_at (take self.course.len text.now) self.course.at) self).next }
     {
-        let course = self.course;
-        let at = course.at;
-        let len = course.len;
-        self.take(command_in(text, len, at), sense)
+        self.take(command_in(text, self.course.len, self.course.at), sense)
     }
 
     // A tick of a run.
+    #[tactic(auto, unfolding(crate::specs::Step::running_of))]
     fn active(self, activity: Activity, text: &[u8], sense: Sense) -> Stepped
         requires { Ticking self activity text.now }
         ensures { result ≡ (running_of activity (around text.now sense) self).next }
     {
         if activity.between() {
-            return self.next(text, sense);
+            self.next(text, sense)
+        } else {
+            self.carry_on(activity, sense)
         }
-        self.carry_on(activity, sense)
     }
 
     // A tick.
+    #[tactic(auto, unfolding(crate::specs::Step::step_of, crate::specs::Step::active_of))]
     fn step(self, text: &[u8], sense: Sense) -> Stepped
         requires { Ready self text.now }
         ensures { result ≡ (step_of (around text.now sense) self).next }
     {
-        let course = self.course;
-        let state = course.state;
-        match state {
-            State::Empty => self.fine(),
-            State::Stored => self.fine(),
+        match self.course.state {
             State::Running(activity) => self.active(activity, text, sense),
-            State::Stopped => self.fine(),
-            State::Done => self.fine(),
+            _ => self.fine(),
         }
     }
 }
 
 impl Stepped {
     // A tick more.
+    #[tactic(auto, unfolding(crate::specs::Step::next_of))]
     fn next(self, text: &[u8], sense: Sense) -> Stepped
         requires { Ready self.core text.now }
         ensures { result ≡ next_of (around text.now sense) self }
     {
-        let core = self.core;
-        let before = self.news;
-        let stepped = core.step(text, sense);
-        let after = stepped.core;
-        let now = stepped.news;
+        let stepped = self.core.step(text, sense);
         Stepped {
-            core: after,
-            news: before.and(now),
+            core: stepped.core,
+            news: self.news.and(stepped.news),
         }
     }
 
     // The ticks passed over, of so many, and the next tick.
+    #[tactic(auto, unfolding(crate::specs::Skip::leapt_of))]
     fn leap(self, text: &[u8], sense: Sense, most: u32) -> Ticked
         requires { Ready self.core text.now }
         ensures { result ≡ leapt_of most (around text.now sense) self }
     {
-        let core = self.core;
-        let news = self.news;
-        let skipped = core.skip(most);
-        let n = skipped.used;
-        let later = skipped.core;
-        let before = Stepped { core: later, news };
-        let stepped = before.next(text, sense);
+        let skipped = self.core.skip(most);
+        let before = Stepped {
+            core: skipped.core,
+            ..self
+        };
         Ticked {
-            stepped,
-            used: n + 1,
+            stepped: before.next(text, sense),
+            used: skipped.used + 1,
         }
     }
 }
@@ -269,21 +253,10 @@ pub fn run(start: Core, text: &[u8], n: u32, sense: Sense) -> Ticked
     requires { Ready start text.now }
     ensures { result ≡ run_of n (around text.now sense) start }
 {
-    let mut s = Stepped {
-        core: start,
-        news: News {
-            failed: Verdict::Fine,
-            eject: false,
-        },
-    };
+    let mut s = start.fine();
     let mut used = 0;
-    while used < n {
-        let c = s.core;
-        if c.ready() {
-            return Ticked { stepped: s, used };
-        }
-        let left = n - used;
-        let leapt = s.leap(text, sense, left - 1);
+    while used < n && !s.core.ready() {
+        let leapt = s.leap(text, sense, n - used - 1);
         s = leapt.stepped;
         used += leapt.used;
     }

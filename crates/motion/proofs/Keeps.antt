@@ -5,7 +5,7 @@ use Prim.Native.Nat.{ℕ, ◌+◌, ◌-◌, ◌*◌, ◌≤◌}
 use native.Mathlib.Omega.{arith}
 use borrow.Author.Tests.{leb-true, leb-false, eqb-false}
 use lib.Dec.{leb, eqb}
-use Rattle.std.specs.Prelude.{if◌then◌else◌}
+use Rattle.std.specs.Prelude.{if◌then◌else◌, None, Option, Some}
 use Rattle.basics.proofs.Choice.{by}
 use Rattle.settings.specs.declared.Settings.{Settings}
 use Rattle.settings.specs.declared.Detection.{Detection}
@@ -18,8 +18,6 @@ use Rattle.settings.specs.Units.{ticks_of, rate_of, millionths_of, goal_of, gone
 use Rattle.settings.proofs.Limits.{usual_settings_are_kept, every_b_makes_a_rate_allowed, every_aspect_set_is_kept}
 use Rattle.settings.proofs.Rounding.{goal_is_within_travel}
 use Rattle.settings.proofs.Motion.{distance_gone_is_at_most_the_distance, under_way}
-use Rattle.level.specs.declared.Pressure.{Pressure}
-use Rattle.level.specs.declared.Pressure.TheVariants.{Beyond, Counts}
 use Rattle.level.specs.declared.Search.{Search}
 use Rattle.level.specs.declared.Finding.{Finding}
 use Rattle.level.specs.declared.Finding.TheVariants.{TooMuch, Found, Missed, On}
@@ -35,8 +33,6 @@ use Rattle.motion.specs.declared.Body.{Body}
 use Rattle.motion.specs.declared.Travel.{Travel}
 use Rattle.motion.specs.declared.Activity.{Activity}
 use Rattle.motion.specs.declared.Activity.TheVariants.{Initialising, Moving, Delaying, Approaching, Searching, Ejecting, Between}
-use Rattle.motion.specs.declared.Target.{Target}
-use Rattle.motion.specs.declared.Target.TheVariants.{At, Outside}
 use Rattle.motion.specs.declared.Effect.{Effect}
 use Rattle.motion.specs.Events.{Turn}
 use Rattle.motion.specs.Bodies.{later_of, plunger_of, body_at, body_for}
@@ -88,10 +84,10 @@ module _ (b : Body) (ok : BodyOk b) where
       (λ e. fine)
       (λ e. (fine, record { from = ok.plunger; goal = goal_is_within_travel exact h; slow = ok.settings.top.least; ticks = omega arith }))
 
-  aimed_keeps : (t : Target) (way : Way) (v : Volume) → ((exact : ℕ) → t ≡ At exact → exact ≤ 44000000000) → EffectOk (aimed t way v b).next
+  aimed_keeps : (t : Option ℕ) (way : Way) (v : Volume) → ((exact : ℕ) → t ≡ Some exact → exact ≤ 44000000000) → EffectOk (aimed t way v b).next
   unfolding aimed
-  aimed_keeps (At exact) way v h = set_out_keeps exact (h exact refl)
-  aimed_keeps Outside way v h = ok
+  aimed_keeps (Some exact) way v h = set_out_keeps exact (h exact refl)
+  aimed_keeps None way v h = ok
 
   move_keeps : (way : Way) (v : Volume) → EffectOk (move_of way v b).next
   move_keeps way v =
@@ -167,7 +163,7 @@ waited_keeps k b ok = by EffectOk (leb k 1) (λ e. ok) (λ e. (ok, tt))
 at_plunger_lem : (b : Body) → BodyOk b → BodyOk (record { plunger = b.plunger; exact = b.plunger * 1000000; initialised = b.initialised; settings = b.settings })
 at_plunger_lem b ok = let p = ok.plunger in record { plunger = p; exact = omega arith; settings = ok.settings }
 
-approached_keeps : (p : Pressure) (t : Travel) (z : ℕ) (b : Body) → TravelOk t → BodyOk b → EffectOk (let now = later_of t in (approached_of p now z (body_at (plunger_of now) b)).next)
+approached_keeps : (p : Option ℕ) (t : Travel) (z : ℕ) (b : Body) → TravelOk t → BodyOk b → EffectOk (let now = later_of t in (approached_of p now z (body_at (plunger_of now) b)).next)
 unfolding approached_of
 approached_keeps p t z b go ok = judged p
   where
@@ -180,14 +176,14 @@ approached_keeps p t z b go ok = judged p
     moved : BodyOk (body_at (plunger_of u) b)
     moved = record { plunger = low; exact = ok.exact; settings = ok.settings }
 
-    judged : (p : Pressure) → EffectOk (approached_of p u z (body_at (plunger_of u) b)).next
-    judged Beyond = at_plunger_lem (body_at (plunger_of u) b) moved
-    judged (Counts r) =
+    judged : (p : Option ℕ) → EffectOk (approached_of p u z (body_at (plunger_of u) b)).next
+    judged None = at_plunger_lem (body_at (plunger_of u) b) moved
+    judged (Some r) =
         by EffectOk (eqb (plunger_of u) t.goal)
         (λ e. (moved, a_search_that_begins (plunger_of u) z low))
         (λ e. (moved, record { from = go.from; goal = go.goal; slow = go.slow; ticks = not_arrived u go.slow go.from go.goal (eqb-false (plunger_of u) t.goal e) }))
 
-searched_keeps : (p : Pressure) (s : Search) (b : Body) → SearchOk s → BodyOk b → EffectOk (searched_of p s b).next
+searched_keeps : (p : Option ℕ) (s : Search) (b : Body) → SearchOk s → BodyOk b → EffectOk (searched_of p s b).next
 unfolding searched_of sought_of found_as
 searched_keeps p s b go ok = judged (finding_of d now p) refl
   where

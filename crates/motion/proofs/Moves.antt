@@ -2,14 +2,13 @@
 use mathlib.Core.Bool.{Bool, true, false}
 use Prim.Native.Nat.{ℕ}
 use lib.Dec.{ltb, eqb}
+use Rattle.std.specs.Prelude.{None, Option, Some}
 use Rattle.basics.proofs.Choice.{by}
 use Rattle.settings.specs.declared.Volume.{Volume}
 use Rattle.settings.specs.Units.{millionths_of}
 use Rattle.command.specs.declared.refusal.Refusal.{Refusal}
 use Rattle.command.specs.declared.refusal.Refusal.TheVariants as R
 use Rattle.command.specs.declared.Way.{Way}
-use Rattle.level.specs.declared.Pressure.{Pressure}
-use Rattle.level.specs.declared.Pressure.TheVariants.{Beyond, Counts}
 use Rattle.level.specs.declared.Search.{Search}
 use Rattle.level.specs.declared.Finding.{Finding}
 use Rattle.level.specs.declared.Finding.TheVariants.{TooMuch, Found, Missed, On}
@@ -58,11 +57,11 @@ module _ (P : Turn Effect → Type 0) where
       approach_by z =
           by (λ (e : Effect). P (told (start (place_for b)) e)) (eqb b.plunger b.settings.detection.place) (λ _. at_p2 z) (λ _. to-p2 z)
 
-      zeroed_by : (from_here : Bool) (p : Pressure) → P (zeroed_of from_here p b)
+      zeroed_by : (from_here : Bool) (p : Option ℕ) → P (zeroed_of from_here p b)
       unfolding zeroed_of
-      zeroed_by from_here Beyond = refused R.TooMuchPressure
-      zeroed_by true (Counts z) = here z
-      zeroed_by false (Counts z) = approach_by z
+      zeroed_by from_here None = refused R.TooMuchPressure
+      zeroed_by true (Some z) = here z
+      zeroed_by false (Some z) = approach_by z
 
       pub detect_by_lem : (from_here : Bool) (s : Sense) → P (detect_of from_here s b)
       unfolding detect_of
@@ -72,11 +71,11 @@ module _ (P : Turn Effect → Type 0) where
           (λ _. refused R.NotInitialised)
 
   pub approached_by :
-      (p : Pressure) (t : Travel) (z : ℕ) (b : Body) → P (ends_here (Fails R.TooMuchPressure) b) → P (quiet (Goes b (Searching (begun b.plunger z)))) →
+      (p : Option ℕ) (t : Travel) (z : ℕ) (b : Body) → P (ends_here (Fails R.TooMuchPressure) b) → P (quiet (Goes b (Searching (begun b.plunger z)))) →
       P (quiet (Goes b (Approaching t z))) → P (approached_of p t z b)
   unfolding approached_of
-  approached_by Beyond t z b halted arrived on = halted
-  approached_by (Counts r) t z b halted arrived on = by (λ (e : Effect). P (quiet e)) (eqb b.plunger t.goal) (λ _. arrived) (λ _. on)
+  approached_by None t z b halted arrived on = halted
+  approached_by (Some r) t z b halted arrived on = by (λ (e : Effect). P (quiet e)) (eqb b.plunger t.goal) (λ _. arrived) (λ _. on)
 
   module _ (b : Body) (found : P (ends_here Ends b)) (fails : (why : Refusal) → P (ends_here (Fails why) b)) (on : (s : Search) → P (quiet (Goes b (Searching s)))) where
     pub found_by : (f : Finding) → P (found_as f b)

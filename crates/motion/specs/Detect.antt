@@ -1,9 +1,7 @@
 -- 02, W-206, "Liquid level detection": B, the move to p2, and the search, as they move the plunger. A tick of the search itself: level, `Level`.
-use Rattle.std.specs.Prelude.{ℕ, ◌*◌, Bool, true, false, ◌&&◌, eqb, if◌then◌else◌}
+use Rattle.std.specs.Prelude.{ℕ, ◌*◌, Bool, true, false, ◌&&◌, eqb, if◌then◌else◌, None, Option, Some}
 use Rattle.settings.specs.declared.Detection.{Detection}
 use Rattle.command.specs.declared.refusal.Refusal.TheVariants as R
-use Rattle.level.specs.declared.Pressure.{Pressure}
-use Rattle.level.specs.declared.Pressure.TheVariants.{Beyond, Counts}
 use Rattle.level.specs.declared.Search.{Search}
 use Rattle.level.specs.declared.Finding.{Finding}
 use Rattle.level.specs.declared.Finding.TheVariants.{TooMuch, Found, Missed, On}
@@ -18,7 +16,7 @@ use Rattle.motion.specs.Events.{start, Turn, quiet, told}
 use Rattle.motion.specs.Bodies.{travel, body_at, body_for, at_plunger}
 
 -- "The host hands in a signed pressure reading with each tick"
-abbrev pub felt_in : Sense → Pressure
+abbrev pub felt_in : Sense → Option ℕ
 felt_in s = pressure_of s.reading
 
 -- p2, in millionths of an increment
@@ -34,10 +32,10 @@ approach_of z b =
     else Goes (body_for (place_for b) b) (Approaching (travel b.plunger p2 b.settings.top) z)
 
 -- "On taking B that tick's reading becomes the zero"; "B1 stays"; "5 for a reading outside"
-unfoldable pub zeroed_of : Bool → Pressure → Body → Turn Effect
-zeroed_of here Beyond b = quiet (Fails R.TooMuchPressure b)
-zeroed_of true (Counts z) b = quiet (Goes b (Searching (begun b.plunger z)))
-zeroed_of false (Counts z) b = told (start (place_for b)) (approach_of z b)
+unfoldable pub zeroed_of : Bool → Option ℕ → Body → Turn Effect
+zeroed_of here None b = quiet (Fails R.TooMuchPressure b)
+zeroed_of true (Some z) b = quiet (Goes b (Searching (begun b.plunger z)))
+zeroed_of false (Some z) b = told (start (place_for b)) (approach_of z b)
 
 -- "p5 of 1 with p2 of 0"
 unfoldable pub no_way_down : Detection → Bool
@@ -61,9 +59,9 @@ abbrev pub ends_here : (Body → Effect) → Body → Turn Effect
 ends_here how b = told (start (at_plunger b)) (how (settled_at b))
 
 -- a tick of the move to p2, the plunger moved: "5 for a reading outside .. in any tick from the one that takes B"; where it arrives the search begins with the next tick
-unfoldable pub approached_of : Pressure → Travel → ℕ → Body → Turn Effect
-approached_of Beyond t z b = ends_here (Fails R.TooMuchPressure) b
-approached_of (Counts r) t z b =
+unfoldable pub approached_of : Option ℕ → Travel → ℕ → Body → Turn Effect
+approached_of None t z b = ends_here (Fails R.TooMuchPressure) b
+approached_of (Some r) t z b =
     quiet
     (if eqb b.plunger t.goal
     then Goes b (Searching (begun b.plunger z))
@@ -76,5 +74,5 @@ found_as Found b = ends_here Ends b
 found_as Missed b = ends_here (Fails R.NoLiquid) b
 found_as (On s) b = quiet (Goes b (Searching s))
 
-unfoldable pub searched_of : Pressure → Search → Body → Turn Effect
+unfoldable pub searched_of : Option ℕ → Search → Body → Turn Effect
 searched_of p s b = let t = sought_of b.settings.detection s p in found_as t.finding (body_at t.plunger b)

@@ -1,5 +1,5 @@
 -- 01, "Ticks, volume and motion": what a command does to the body, and how a movement goes on.
-use Rattle.std.specs.Prelude.{ℕ, ◌+◌, ◌-◌, ◌*◌, Bool, true, false, ltb, leb, eqb, if◌then◌else◌}
+use Rattle.std.specs.Prelude.{ℕ, ◌+◌, ◌-◌, ◌*◌, Bool, true, false, ltb, leb, eqb, if◌then◌else◌, None, Option, Some}
 use Rattle.settings.specs.declared.Settings.{Settings}
 use Rattle.settings.specs.declared.Detection.{Detection}
 use Rattle.settings.specs.declared.Aspect.{Aspect}
@@ -20,8 +20,6 @@ use Rattle.motion.specs.declared.Activity.{Activity}
 use Rattle.motion.specs.declared.Activity.TheVariants.{Initialising, Moving, Delaying, Approaching, Searching, Ejecting, Between}
 use Rattle.motion.specs.declared.Effect.{Effect}
 use Rattle.motion.specs.declared.Effect.TheVariants.{Goes, Ends, Fails, Asks, Opens, Closes}
-use Rattle.motion.specs.declared.Target.{Target}
-use Rattle.motion.specs.declared.Target.TheVariants.{At, Outside}
 use Rattle.motion.specs.Events.{Event, start, volume, Turn, quiet, told}
 use Rattle.motion.specs.Bodies.{travel, later_of, plunger_of, body_at, body_for, body_known, body_set, at_plunger}
 use Rattle.motion.specs.Detect.{felt_in, detect_of, approached_of, searched_of}
@@ -36,14 +34,14 @@ home_of speed b =
     else Goes cleared (Initialising (travel b.plunger 0 (speed * 10))))
 
 -- "Result below 0 or above 44,000,000,000: refused, 3."
-unfoldable pub within : ℕ → Target
-within exact = if ltb travel_most exact then Outside else At exact
+unfoldable pub within : ℕ → Option ℕ
+within exact = if ltb travel_most exact then None else Some exact
 
 -- "A sets, P adds, D subtracts."
-unfoldable pub target_of : Way → ℕ → ℕ → Target
+unfoldable pub target_of : Way → ℕ → ℕ → Option ℕ
 target_of To by exact = within by
 target_of Up by exact = within (exact + by)
-target_of Down by exact = if ltb exact by then Outside else within (exact - by)
+target_of Down by exact = if ltb exact by then None else within (exact - by)
 
 -- the body sets out for an exact position; "moves of no distance .. end in that tick"; "A movement keeps the V of its start."
 unfoldable pub set_out : ℕ → Body → Effect
@@ -58,9 +56,9 @@ event_of To v rate exact = start exact
 event_of Up v rate exact = volume v rate true
 event_of Down v rate exact = volume v rate false
 
-unfoldable pub aimed : Target → Way → Volume → Body → Turn Effect
-aimed (At exact) way v b = told (event_of way v b.settings.rate exact) (set_out exact b)
-aimed Outside way v b = quiet (Fails R.Outside b)
+unfoldable pub aimed : Option ℕ → Way → Volume → Body → Turn Effect
+aimed (Some exact) way v b = told (event_of way v b.settings.rate exact) (set_out exact b)
+aimed None way v b = quiet (Fails R.Outside b)
 
 -- "7 is checked before 3." 02, W-205: "A, P or D taken while v is greater than V shall be refused"; "3 in the run, after 7 and before the travel check"
 unfoldable pub move_of : Way → Volume → Body → Turn Effect

@@ -12,7 +12,7 @@ ghost use Rattle.motion.specs.Bounds.{BodyOk, TravelOk, ActivityOk};
 
 use command::refusal::Refusal;
 use command::{Command, Way};
-use level::{Finding, Pressure, Search};
+use level::{Finding, Search};
 use settings::{Aspect, Detection, Pace, Settings, Volume, units};
 
 // The exact position counts millionths of an increment.
@@ -63,42 +63,25 @@ pub enum Effect {
     Closes(u32),
 }
 
-// The exact position that a move asks for.
-#[derive(Clone, Copy)]
-pub enum Target {
-    At(u64),
-    Outside,
-}
-
 impl Activity {
     // Whether it is a movement.
     pub fn moves(self) -> bool
         ensures { result ≡ in_motion self }
     {
-        match self {
-            Activity::Initialising(_) => true,
-            Activity::Moving(_) => true,
-            Activity::Delaying(_) => false,
-            Activity::Approaching(_, _) => true,
-            Activity::Searching(_) => true,
-            Activity::Ejecting => false,
-            Activity::Between => false,
-        }
+        matches!(
+            self,
+            Activity::Initialising(_)
+                | Activity::Moving(_)
+                | Activity::Approaching(_, _)
+                | Activity::Searching(_)
+        )
     }
 
     // Whether nothing is in progress.
     pub fn between(self) -> bool
         ensures { result ≡ between self }
     {
-        match self {
-            Activity::Initialising(_) => false,
-            Activity::Moving(_) => false,
-            Activity::Delaying(_) => false,
-            Activity::Approaching(_, _) => false,
-            Activity::Searching(_) => false,
-            Activity::Ejecting => false,
-            Activity::Between => true,
-        }
+        matches!(self, Activity::Between)
     }
 }
 
@@ -120,59 +103,42 @@ impl Travel {
         ensures { result ≡ later_of self }
     {
         Travel {
-            from: self.from,
-            goal: self.goal,
-            speed: self.speed,
             ticks: self.ticks + 1,
+            ..self
         }
     }
 
     // Where the plunger is by now.
+    #[tactic(auto, using(settings::proofs::Motion::distance_gone_is_at_most_the_distance), unfolding(crate::specs::Bodies::plunger_of))]
     fn plunger(self) -> u32
         ensures { result ≡ plunger_of self }
     {
-        let from = self.from;
-        let goal = self.goal;
-        if from <= goal {
-            let up = goal - from;
-            let gone = units::gone(self.ticks, self.speed, up);
-            return from + gone;
+        let gone = units::gone(self.ticks, self.speed, self.from.abs_diff(self.goal));
+        if self.from <= self.goal {
+            self.from + gone
+        } else {
+            self.from - gone
         }
-        let down = from - goal;
-        let gone = units::gone(self.ticks, self.speed, down);
-        from - gone
     }
 }
 
 // An exact position within travel.
-fn in_travel(exact: u64) -> Target
+#[tactic(auto, unfolding(crate::specs::Motion::within))]
+fn in_travel(exact: u64) -> Option<u64>
     ensures { result ≡ within exact }
 {
-    if Settings::TRAVEL < exact {
-        return Target::Outside;
-    }
-    Target::At(exact)
+    (exact <= Settings::TRAVEL).then_some(exact)
 }
 
 // The exact position that A, P or D asks for.
-fn asked_for(way: Way, by: u64, exact: u64) -> Target
-    requires { exact ≤ travel_most }
+#[tactic(auto, unfolding(crate::specs::Motion::target_of, crate::specs::Motion::within))]
+fn asked_for(way: Way, by: u64, exact: u64) -> Option<u64>
     ensures { result ≡ target_of way by exact }
 {
     match way {
         Way::To => in_travel(by),
-        Way::Up => {
-            if Settings::TRAVEL < by {
-                return Target::Outside;
-            }
-            in_travel(exact + by)
-        }
-        Way::Down => {
-            if exact < by {
-                return Target::Outside;
-            }
-            in_travel(exact - by)
-        }
+        Way::Up => in_travel(exact.checked_add(by)?),
+        Way::Down => in_travel(exact.checked_sub(by)?),
     }
 }
 
@@ -180,69 +146,21 @@ fn asked_for(way: Way, by: u64, exact: u64) -> Target
 fn paced(pace: Pace, tenths: u32, s: Settings) -> Settings
     ensures { result ≡ paced_of pace tenths s }
 {
-    let mut next = s;
     match pace {
-        Pace::Top => {
-            next.top = tenths;
-            return next;
-        }
-        Pace::Start => {
-            next.start = tenths;
-            return next;
-        }
-        Pace::Cutoff => {
-            next.cutoff = tenths;
-            return next;
-        }
+        Pace::Top => Settings { top: tenths, ..s },
+        Pace::Start => Settings { start: tenths, ..s },
+        Pace::Cutoff => Settings {
+            cutoff: tenths,
+            ..s
+        },
     }
 }
 
-// L.
-fn sloped(up: u32, down: u32, s: Settings) -> Settings
-    ensures { result ≡ sloped_of up down s }
-{
-    let mut next = s;
-    next.acceleration = up;
-    next.deceleration = down;
-    next
-}
-
+#[tactic(auto, unfolding(crate::specs::Detect::no_way_down))]
 fn no_way_down(d: Detection) -> bool
     ensures { result ≡ no_way_down d }
 {
-    if d.mode != 1 {
-        return false;
-    }
-    d.place == 0
-}
-
-// p.
-fn detecting(aspect: Aspect, n: u16, s: Settings) -> Settings
-    ensures { result ≡ detecting_of aspect n s }
-{
-    let detection = s.detection;
-    let mut next = s;
-    next.detection = detection.with(aspect, n);
-    next
-}
-
-// K.
-fn backlashed(n: u32, s: Settings) -> Settings
-    ensures { result ≡ backlash_of n s }
-{
-    let mut next = s;
-    next.backlash = n;
-    next
-}
-
-// b.
-fn compensated(b: u16, down: bool, s: Settings) -> Settings
-    ensures { result ≡ rated_of (rate_of b down) s }
-{
-    let mut next = s;
-    let rate = units::rate(b, down);
-    next.rate = rate;
-    next
+    d.mode == 1 && d.place == 0
 }
 
 impl Sense {
@@ -260,100 +178,89 @@ impl Sense {
     pub fn with_tip(self, tip: bool) -> Sense
         ensures { result ≡ sensing tip self.reading }
     {
-        let mut next = self;
-        next.tip = tip;
-        next
+        Sense { tip, ..self }
     }
 
     // Another reading.
     pub fn with_reading(self, reading: i32) -> Sense
         ensures { result ≡ sensing self.tip reading }
     {
-        let mut next = self;
-        next.reading = reading;
-        next
+        Sense { reading, ..self }
     }
 
-    fn felt(self) -> Pressure
+    fn felt(self) -> Option<u32>
         ensures { result ≡ felt_in self }
     {
-        let reading = self.reading;
-        level::felt(reading)
+        level::felt(self.reading)
     }
 }
 
 impl Body {
+    #[tactic(auto, unfolding(crate::specs::Motion::fresh_body))]
     pub fn fresh() -> Body
         ensures { result ≡ fresh_body.next }
     {
-        let settings = Settings::default();
         Body {
             plunger: 0,
             exact: 0,
             initialised: false,
-            settings,
+            settings: Settings::default(),
         }
     }
 
     // W.
+    #[tactic(auto, unfolding(crate::specs::Motion::home_of))]
     fn home(self, speed: u16) -> Effect
         ensures { result ≡ (home_of speed self).next }
     {
-        let from = self.plunger;
-        let tenths = (speed as u32) * 10;
-        let settings = self.settings;
         // Until it arrives: a cut W leaves us uninitialised.
         let home = Body {
-            plunger: from,
             exact: 0,
-            initialised: from == 0,
-            settings,
+            initialised: self.plunger == 0,
+            ..self
         };
-        if from == 0 {
+        if self.plunger == 0 {
             return Effect::Ends(home);
         }
-        Effect::Goes(home, Activity::Initialising(Travel::new(from, 0, tenths)))
+        let tenths = u32::from(speed) * 10;
+        Effect::Goes(
+            home,
+            Activity::Initialising(Travel::new(self.plunger, 0, tenths)),
+        )
     }
 
     // Towards an exact position within travel.
+    #[tactic(auto, using(settings::proofs::Rounding::goal_is_within_travel), unfolding(crate::specs::Motion::set_out))]
     fn set_out(self, exact: u64) -> Effect
         requires { exact ≤ travel_most }
         ensures { result ≡ set_out exact self }
     {
-        let from = self.plunger;
-        let settings = self.settings;
         let goal = units::goal(exact) as u32;
-        let body = Body {
-            plunger: from,
-            exact,
-            initialised: self.initialised,
-            settings,
-        };
-        if from == goal {
+        let body = Body { exact, ..self };
+        if self.plunger == goal {
             return Effect::Ends(body);
         }
         Effect::Goes(
             body,
-            Activity::Moving(Travel::new(from, goal, settings.top)),
+            Activity::Moving(Travel::new(self.plunger, goal, self.settings.top)),
         )
     }
 
     // A, P and D.
+    #[tactic(auto, using(crate::proofs::Within::target_within), unfolding(crate::specs::Motion::move_of, crate::specs::Motion::aimed))]
     fn shift(self, way: Way, volume: Volume) -> Effect
-        requires { BodyOk self }
         ensures { result ≡ (move_of way volume self).next }
     {
         if !self.initialised {
             return Effect::Fails(Refusal::NotInitialised, self);
         }
-        let settings = self.settings;
-        if settings.top < settings.start {
+        if self.settings.top < self.settings.start {
             return Effect::Fails(Refusal::StartAboveTop, self);
         }
-        let by = volume.millionths(settings.rate);
+        let by = volume.millionths(self.settings.rate);
         match asked_for(way, by, self.exact) {
-            Target::At(exact) => self.set_out(exact),
-            Target::Outside => Effect::Fails(Refusal::Outside, self),
+            Some(exact) => self.set_out(exact),
+            None => Effect::Fails(Refusal::Outside, self),
         }
     }
 
@@ -361,103 +268,81 @@ impl Body {
     fn set_to(self, settings: Settings) -> Effect
         ensures { result ≡ set_to settings self }
     {
-        let body = Body {
-            plunger: self.plunger,
-            exact: self.exact,
-            initialised: self.initialised,
-            settings,
-        };
-        Effect::Ends(body)
+        Effect::Ends(Body { settings, ..self })
     }
 
     // M.
+    #[tactic(auto, unfolding(crate::specs::Motion::delay_of))]
     fn delay(self, ms: u32) -> Effect
         ensures { result ≡ delay_of ms self }
     {
-        let k = units::ticks(ms);
-        if k == 0 {
-            return Effect::Ends(self);
+        match units::ticks(ms) {
+            0 => Effect::Ends(self),
+            k => Effect::Goes(self, Activity::Delaying(k)),
         }
-        Effect::Goes(self, Activity::Delaying(k))
     }
 
     // E, with a tip or, where it does without one, initialised.
+    #[tactic(auto, unfolding(crate::specs::Motion::eject_of))]
     fn eject(self, bare: bool, sense: Sense) -> Effect
         ensures { result ≡ eject_of bare sense self }
     {
-        if !bare {
-            if sense.tip {
-                return Effect::Asks;
-            }
+        if bare && !self.initialised {
+            return Effect::Fails(Refusal::NotInitialised, self);
+        }
+        if !bare && !sense.tip {
             return Effect::Fails(Refusal::NoTip, self);
         }
-        if self.initialised {
-            return Effect::Asks;
-        }
-        Effect::Fails(Refusal::NotInitialised, self)
+        Effect::Asks
     }
 
     // B0: to p2, and from there.
+    #[tactic(auto, unfolding(crate::specs::Detect::approach_of))]
     fn approach(self, zero: u32) -> Effect
-        requires { BodyOk self }
         ensures { result ≡ approach_of zero self }
     {
-        let from = self.plunger;
-        let settings = self.settings;
-        let detection = settings.detection;
-        let place = detection.place;
-        let exact = (place as u64) * 1_000_000;
+        let place = self.settings.detection.place;
         let body = Body {
-            plunger: from,
-            exact,
-            initialised: self.initialised,
-            settings,
+            exact: u64::from(place) * 1_000_000,
+            ..self
         };
-        if from == place {
+        if self.plunger == place {
             return Effect::Goes(body, Activity::Searching(Search::begin(place, zero)));
         }
-        Effect::Goes(
-            body,
-            Activity::Approaching(Travel::new(from, place, settings.top), zero),
-        )
+        let travel = Travel::new(self.plunger, place, self.settings.top);
+        Effect::Goes(body, Activity::Approaching(travel, zero))
     }
 
     // B, where nothing but the reading can be wrong.
-    fn zeroed(self, here: bool, pressure: Pressure) -> Effect
-        requires { BodyOk self }
+    #[tactic(auto, unfolding(crate::specs::Detect::zeroed_of))]
+    fn zeroed(self, here: bool, pressure: Option<u32>) -> Effect
         ensures { result ≡ (zeroed_of here pressure self).next }
     {
         match pressure {
-            Pressure::Beyond => Effect::Fails(Refusal::TooMuchPressure, self),
-            Pressure::Counts(zero) => {
-                if here {
-                    return Effect::Goes(
-                        self,
-                        Activity::Searching(Search::begin(self.plunger, zero)),
-                    );
-                }
-                self.approach(zero)
+            None => Effect::Fails(Refusal::TooMuchPressure, self),
+            Some(zero) if here => {
+                Effect::Goes(self, Activity::Searching(Search::begin(self.plunger, zero)))
             }
+            Some(zero) => self.approach(zero),
         }
     }
 
     // B.
+    #[tactic(auto, unfolding(crate::specs::Detect::detect_of))]
     fn detect(self, here: bool, sense: Sense) -> Effect
-        requires { BodyOk self }
         ensures { result ≡ (detect_of here sense self).next }
     {
         if !self.initialised {
             return Effect::Fails(Refusal::NotInitialised, self);
         }
-        let settings = self.settings;
-        let detection = settings.detection;
-        if no_way_down(detection) {
+        if no_way_down(self.settings.detection) {
             return Effect::Fails(Refusal::NoWayDown, self);
         }
         self.zeroed(here, sense.felt())
     }
 
     // What a command does.
+    #[tactic(auto, unfolding(crate::specs::Motion::effect_of))]
     pub fn effect(self, c: Command, sense: Sense) -> Effect
         requires { BodyOk self }
         ensures { result ≡ (effect_of sense c self).next }
@@ -467,11 +352,24 @@ impl Body {
             Command::Initialise(speed) => self.home(speed),
             Command::Move(way, volume) => self.shift(way, volume),
             Command::Speed(pace, tenths) => self.set_to(paced(pace, tenths, settings)),
-            Command::Slopes(up, down) => self.set_to(sloped(up, down, settings)),
-            Command::Backlash(n) => self.set_to(backlashed(n, settings)),
-            Command::Compensate(b, down) => self.set_to(compensated(b, down, settings)),
+            Command::Slopes(up, down) => self.set_to(Settings {
+                acceleration: up,
+                deceleration: down,
+                ..settings
+            }),
+            Command::Backlash(n) => self.set_to(Settings {
+                backlash: n,
+                ..settings
+            }),
+            Command::Compensate(b, down) => self.set_to(Settings {
+                rate: units::rate(b, down),
+                ..settings
+            }),
             Command::Delay(ms) => self.delay(ms),
-            Command::Set(aspect, n) => self.set_to(detecting(aspect, n, settings)),
+            Command::Set(aspect, n) => self.set_to(Settings {
+                detection: settings.detection.with(aspect, n),
+                ..settings
+            }),
             Command::Detect(here) => self.detect(here, sense),
             Command::Eject(bare) => self.eject(bare, sense),
             Command::Open => Effect::Opens,
@@ -479,42 +377,26 @@ impl Body {
         }
     }
 
-    // The plunger moved, and what is known of it.
-    fn moved(self, plunger: u32, initialised: bool) -> Body
-        ensures { result ≡ body_known initialised (body_at plunger self) }
+    // A tick of a movement, which goes on as it was or ends with this known of the plunger.
+    #[tactic(auto, unfolding(crate::specs::Motion::carried))]
+    fn carried(self, t: Travel, on: Activity, initialised: bool) -> Effect
+        ensures { result ≡ carried (λ _. on) initialised t self }
     {
-        let settings = self.settings;
-        Body {
-            plunger,
-            exact: self.exact,
-            initialised,
-            settings,
+        let here = Body {
+            plunger: t.plunger(),
+            ..self
+        };
+        if here.plunger == t.goal {
+            return Effect::Ends(Body {
+                initialised,
+                ..here
+            });
         }
-    }
-
-    // A tick of W's movement.
-    fn homewards(self, t: Travel) -> Effect
-        ensures { result ≡ carried Activity.Initialising true t self }
-    {
-        let p = t.plunger();
-        if p == t.goal {
-            return Effect::Ends(self.moved(p, true));
-        }
-        Effect::Goes(self.moved(p, self.initialised), Activity::Initialising(t))
-    }
-
-    // A tick of a movement.
-    fn forwards(self, t: Travel) -> Effect
-        ensures { result ≡ carried Activity.Moving self.initialised t self }
-    {
-        let p = t.plunger();
-        if p == t.goal {
-            return Effect::Ends(self.moved(p, self.initialised));
-        }
-        Effect::Goes(self.moved(p, self.initialised), Activity::Moving(t))
+        Effect::Goes(here, on)
     }
 
     // A tick of a delay.
+    #[tactic(auto, unfolding(crate::specs::Motion::waited_of))]
     fn waited(self, k: u32) -> Effect
         ensures { result ≡ waited_of k self }
     {
@@ -525,6 +407,7 @@ impl Body {
     }
 
     // The tick after the one that took E.
+    #[tactic(auto, unfolding(crate::specs::Motion::ejected_of))]
     fn ejected(self, sense: Sense) -> Effect
         ensures { result ≡ ejected_of sense self }
     {
@@ -534,23 +417,26 @@ impl Body {
         Effect::Ends(self)
     }
 
-    // A tick of B's move to p2, the plunger moved.
-    fn approached(self, pressure: Pressure, t: Travel, zero: u32) -> Effect
-        ensures { result ≡ (approached_of pressure t zero self).next }
+    // A tick of B's move to p2.
+    #[tactic(auto, unfolding(crate::specs::Detect::approached_of))]
+    fn approached(self, pressure: Option<u32>, t: Travel, zero: u32) -> Effect
+        ensures { result ≡ (approached_of pressure t zero (body_at (plunger_of t) self)).next }
     {
-        match pressure {
-            Pressure::Beyond => Effect::Fails(Refusal::TooMuchPressure, self.at_plunger()),
-            Pressure::Counts(_) => {
-                let p = self.plunger;
-                if p == t.goal {
-                    return Effect::Goes(self, Activity::Searching(Search::begin(p, zero)));
-                }
-                Effect::Goes(self, Activity::Approaching(t, zero))
-            }
+        let here = Body {
+            plunger: t.plunger(),
+            ..self
+        };
+        if pressure.is_none() {
+            return Effect::Fails(Refusal::TooMuchPressure, here.at_plunger());
         }
+        if here.plunger == t.goal {
+            return Effect::Goes(here, Activity::Searching(Search::begin(here.plunger, zero)));
+        }
+        Effect::Goes(here, Activity::Approaching(t, zero))
     }
 
     // What a tick of the search has found, the plunger moved.
+    #[tactic(auto, unfolding(crate::specs::Detect::found_as))]
     fn found(self, finding: Finding) -> Effect
         ensures { result ≡ (found_as finding self).next }
     {
@@ -564,36 +450,36 @@ impl Body {
     }
 
     // A tick of the search.
-    fn searched(self, pressure: Pressure, s: Search) -> Effect
+    #[tactic(auto, unfolding(crate::specs::Detect::searched_of))]
+    fn searched(self, pressure: Option<u32>, s: Search) -> Effect
         requires { SearchOk s }
         ensures { result ≡ (searched_of pressure s self).next }
     {
-        let settings = self.settings;
-        let detection = settings.detection;
-        let sought = s.onward(detection, pressure);
-        let finding = sought.finding;
-        self.moved(sought.plunger, self.initialised).found(finding)
-    }
-
-    // A tick of B's move to p2.
-    fn nearer(self, sense: Sense, t: Travel, zero: u32) -> Effect
-        ensures { result ≡ (approached_of (felt_in sense) t zero (body_at (plunger_of t) self)).next }
-    {
-        let p = t.plunger();
-        self.moved(p, self.initialised)
-            .approached(sense.felt(), t, zero)
+        let sought = s.onward(self.settings.detection, pressure);
+        let here = Body {
+            plunger: sought.plunger,
+            ..self
+        };
+        here.found(sought.finding)
     }
 
     // A tick of what is in progress.
+    #[tactic(auto, unfolding(crate::specs::Motion::onward_of, crate::specs::Motion::carried))]
     pub fn onward(self, activity: Activity, sense: Sense) -> Effect
         requires { ActivityOk activity }
         ensures { result ≡ (onward_of sense activity self).next }
     {
         match activity {
-            Activity::Initialising(t) => self.homewards(t.later()),
-            Activity::Moving(t) => self.forwards(t.later()),
+            Activity::Initialising(t) => {
+                let t = t.later();
+                self.carried(t, Activity::Initialising(t), true)
+            }
+            Activity::Moving(t) => {
+                let t = t.later();
+                self.carried(t, Activity::Moving(t), self.initialised)
+            }
             Activity::Delaying(k) => self.waited(k),
-            Activity::Approaching(t, zero) => self.nearer(sense, t.later(), zero),
+            Activity::Approaching(t, zero) => self.approached(sense.felt(), t.later(), zero),
             Activity::Searching(s) => self.searched(sense.felt(), s),
             Activity::Ejecting => self.ejected(sense),
             Activity::Between => Effect::Ends(self),
@@ -604,17 +490,14 @@ impl Body {
     fn at_plunger(self) -> Body
         ensures { result ≡ body_for (at_plunger self) self }
     {
-        let settings = self.settings;
-        let exact = (self.plunger as u64) * 1_000_000;
         Body {
-            plunger: self.plunger,
-            exact,
-            initialised: self.initialised,
-            settings,
+            exact: u64::from(self.plunger) * 1_000_000,
+            ..self
         }
     }
 
     // T.
+    #[tactic(auto, unfolding(crate::specs::Motion::cut_of))]
     pub fn cut(self, activity: Activity) -> Body
         ensures { result ≡ (cut_of activity self).next }
     {
@@ -625,16 +508,14 @@ impl Body {
     }
 
     // !R.
+    #[tactic(auto, unfolding(crate::specs::Motion::reset_of))]
     pub fn reset(self) -> Body
         ensures { result ≡ (reset_of self).next }
     {
-        let settings = Settings::default();
-        let exact = (self.plunger as u64) * 1_000_000;
         Body {
-            plunger: self.plunger,
-            exact,
             initialised: false,
-            settings,
+            settings: Settings::default(),
+            ..self.at_plunger()
         }
     }
 }

@@ -21,13 +21,13 @@ fn fresh() -> Receiver {
 }
 
 fn give(r: Receiver, b: u8) -> Receiver {
-    let line = r.line;
     let mut frame = r.frame;
-    let heard = line.hear(b);
-    let next = heard.dt;
-    let deed = heard.deed;
-    line::keep(&mut frame, deed, b);
-    Receiver { line: next, frame }
+    let heard = r.line.hear(b);
+    line::keep(&mut frame, heard.deed, b);
+    Receiver {
+        line: heard.line,
+        frame,
+    }
 }
 
 // Numbers that look like chance, the same in every run: the i-th of a seed.
@@ -45,10 +45,7 @@ fn any_byte(seed: u32, i: usize) -> u8 {
 // A byte that a frame may hold: 20h to 7Eh but `/`.
 fn data_byte(seed: u32, i: usize) -> u8 {
     let b = (32 + chance(seed, i) % 94) as u8;
-    if b < b'/' {
-        return b;
-    }
-    b + 1
+    if b < b'/' { b } else { b + 1 }
 }
 
 // Up to 329 data bytes.
@@ -63,10 +60,8 @@ fn sent(seed: u32, n: usize, i: usize) -> u8 {
     if i == 0 {
         return b'/';
     }
-    if n < i {
-        if i - n == 2 {
-            return 13;
-        }
+    if n < i && i - n == 2 {
+        return 13;
     }
     data_byte(seed, i)
 }
@@ -114,36 +109,22 @@ fn hear_noise(start: Receiver, seed: u32, n: usize) -> Receiver {
 // What a receiver has in hand: to whom, and how many data bytes, 321 for more than 320.
 fn address_in(line: Dt) -> u8 {
     match line {
-        Dt::Outside => 0,
-        Dt::Started => 0,
+        Dt::Outside | Dt::Started => 0,
         Dt::Collecting(address, _) => address,
     }
 }
 
 fn count_in(line: Dt) -> usize {
     match line {
-        Dt::Outside => 0,
-        Dt::Started => 0,
+        Dt::Outside | Dt::Started => 0,
         Dt::Collecting(_, count) => count as usize,
     }
 }
 
 // Whether the first n bytes, 320 at most, are the same, and those that were sent.
-fn same_data(a: &[u8], b: &[u8], seed: u32, n: usize) -> bool {
-    for i in 0..n {
-        if 320 <= i {
-            return true;
-        }
-        if a.len() <= i {
-            return false;
-        }
-        if b.len() <= i {
-            return false;
-        }
-        if a[i] != b[i] {
-            return false;
-        }
-        if a[i] != data_byte(seed, i + 2) {
+fn same_data(a: &[u8; 320], b: &[u8; 320], seed: u32, n: usize) -> bool {
+    for i in 0..n.min(320) {
+        if a[i] != b[i] || a[i] != data_byte(seed, i + 2) {
             return false;
         }
     }
@@ -152,21 +133,12 @@ fn same_data(a: &[u8], b: &[u8], seed: u32, n: usize) -> bool {
 
 // Whether two receivers have the same whole frame in hand, as it was sent.
 fn alike(r: Receiver, s: Receiver, seed: u32) -> bool {
-    let one = r.line;
-    let other = s.line;
-    let mine = r.frame;
-    let theirs = s.frame;
-    if address_in(one) != address_in(other) {
-        return false;
-    }
-    if address_in(one) != data_byte(seed, 1) {
-        return false;
-    }
-    let n = count_in(one);
-    if n != count_in(other) {
-        return false;
-    }
-    same_data(&mine, &theirs, seed, n)
+    let address = address_in(r.line);
+    let n = count_in(r.line);
+    address == address_in(s.line)
+        && address == data_byte(seed, 1)
+        && n == count_in(s.line)
+        && same_data(&r.frame, &s.frame, seed, n)
 }
 
 // Noise or a damaged frame.
@@ -183,16 +155,6 @@ fn disturbed(r: Receiver, seed: u32) -> Receiver {
     hear_damaged(r, seed, n, n + at, end)
 }
 
-// 1 for what holds.
-fn once(holds: bool) -> u32
-    ensures { result < 2 }
-{
-    if holds {
-        return 1;
-    }
-    0
-}
-
 fn count_alike() -> u32 {
     let mut r = fresh();
     let mut alike_so_far: u32 = 0;
@@ -203,7 +165,7 @@ fn count_alike() -> u32 {
         let end = n + 2;
         r = hear_frame(r, next, n, end);
         let s = hear_frame(fresh(), next, n, end);
-        alike_so_far += once(alike(r, s, next));
+        alike_so_far += u32::from(alike(r, s, next));
         r = give(r, 13);
     }
     alike_so_far

@@ -6,7 +6,8 @@ use Prim.Native.Nat.{ℕ, zero, suc, ◌+◌, ◌-◌, ◌≤◌, ◌<◌}
 use native.Mathlib.Omega.{arith}
 use lib.ListN.{length, take, drop, get_or, drop_of_length-le, length-append}
 use lib.Seq.{get_or-take, take-length, take-append_seam, drop-append_seam}
-use Rattle.std.specs.Prelude.{if◌then◌else◌}
+use Rattle.std.specs.Prelude.{if◌then◌else◌, cond}
+use Rattle.std.specs.List.{prefix_len}
 use Rattle.basics.specs.Bytes.{digit, every}
 use Rattle.basics.proofs.Digits.{and_both}
 use Rattle.basics.proofs.Lists.{drop_step, tail_all}
@@ -33,6 +34,19 @@ module _ (class : Class) (t : List ℕ) (i : ℕ) where
   pub run_end : length t ≤ i → run class (drop i t) ≡ []
   unfolding run
   run_end h = rw drop_of_length-le
+
+-- a run is as long as bytes of its class are at the front
+run_counted : (class : Class) (t : List ℕ) → prefix_len (λ b. has class b) t ≡ length (run class t)
+unfolding run
+run_counted class [] = refl
+run_counted class (b ∷ t) = go (has class b) (run_counted class t)
+  where
+    go : (x : Bool) → prefix_len (λ c. has class c) t ≡ length (run class t) → cond x (1 + prefix_len (λ c. has class c) t) 0 ≡ length (if x then b ∷ run class t else [])
+    go true e = omega arith
+    go false e = refl
+
+pub counted_run : (class : Class) (t : List ℕ) (n : ℕ) → n ≡ prefix_len (λ b. has class b) t → n ≡ length (run class t)
+counted_run class t n e = e ∙ run_counted class t
 
 -- a text is its run and what follows
 pub run_rest : (class : Class) (t : List ℕ) → run class t ++ rest class t ≡ t

@@ -2,6 +2,7 @@
 #![tactic(auto)]
 
 ghost use Rattle.std.specs.Prelude.{◌≡◌, true, ◌+◌, ◌^◌, ◌≤◌, ◌<◌, length};
+ghost use Rattle.std.specs.List.{prefix_len};
 ghost use Rattle.basics.specs.Bytes.{digit, every};
 ghost use Rattle.operand.specs.Text.{has, run, operand_text};
 ghost use Rattle.operand.specs.Begins.{longest, few, follows};
@@ -17,6 +18,7 @@ pub enum Class {
 }
 
 // A number in thousandths with the decimals that were written, none at all, or text that is no number.
+// An enum of its own: each of its readers asks for all three cases at once, where Result<Option<..>, usize> would ask twice.
 #[derive(Clone, Copy)]
 pub enum Number {
     Absent,
@@ -39,48 +41,21 @@ pub struct Pair {
     pub read: usize,
 }
 
-fn is_operand(b: u8) -> bool
-    ensures { result ≡ has Class.Operand b }
-{
-    if basics::is_digit(b) {
-        return true;
-    }
-    if b == b'.' {
-        return true;
-    }
-    b == b','
-}
-
 fn is_in(class: Class, b: u8) -> bool
     ensures { result ≡ has class b }
 {
     match class {
         Class::Digit => basics::is_digit(b),
-        Class::Operand => is_operand(b),
+        Class::Operand => basics::is_digit(b) || b == b'.' || b == b',',
         Class::NoComma => b != b',',
     }
 }
 
 // How many bytes of a class a text begins with.
 fn run_length(t: &[u8], class: Class) -> usize
-    ensures { result ≡ length (run class t.now) }
+    ensures { result ≡ prefix_len (λ b. has class b) t.now }
 {
-    let mut i = 0;
-    while i < t.len() {
-        let b = t[i];
-        if is_in(class, b) {
-            i += 1;
-        } else {
-            return i;
-        }
-    }
-    i
-}
-
-fn wide(b: u8) -> u32
-    ensures { result ≡ b }
-{
-    b as u32
+    t.iter().take_while(|b| is_in(class, **b)).count()
 }
 
 // What up to six digits spell.
@@ -88,12 +63,9 @@ fn value(t: &[u8]) -> u32
     requires { (every digit t.now ≡ true) × (length t.now ≤ 6) }
     ensures { Spelt t.now result }
 {
-    let mut v: u32 = 0;
-    let mut i = 0;
-    while i < t.len() {
-        let d = t[i] - 48;
-        v = v * 10 + wide(d);
-        i += 1;
+    let mut v = 0;
+    for d in t {
+        v = v * 10 + u32::from(*d - b'0');
     }
     v
 }
@@ -103,13 +75,11 @@ fn scaled(v: u32, n: usize) -> u32
     requires { (v < 10 ^ n) × (n ≤ 6) }
     ensures { Scaled v n result }
 {
-    if n == 1 {
-        return v * 100;
+    match n {
+        1 => v * 100,
+        2 => v * 10,
+        _ => v,
     }
-    if n == 2 {
-        return v * 10;
-    }
-    v
 }
 
 // The digits behind a point, after a whole part of so many thousandths and `from` characters of the number.
@@ -121,16 +91,11 @@ fn fraction(from: usize, whole: u32, t: &[u8]) -> Number
     if 3 < n {
         return Number::Wrong(from + 3);
     }
-    let read = from + n;
-    if n != t.len() {
-        return Number::Wrong(read);
+    if n != t.len() || n == 0 {
+        return Number::Wrong(from + n);
     }
-    if n < 1 {
-        return Number::Wrong(read);
-    }
-    let part = scaled(value(t), n);
     Number::Is {
-        thousandths: whole + part,
+        thousandths: whole + scaled(value(t), n),
         decimals: n,
     }
 }
@@ -141,17 +106,16 @@ fn followed(n: usize, whole: u32, t: &[u8]) -> Number
     ensures { result ≡ followed_of (n + longest (follows n) (length t.now) t.now) whole t.now }
 {
     let base = whole * 1000;
-    if t.len() == 0 {
+    let Some((first, rest)) = t.split_first() else {
         return Number::Is {
             thousandths: base,
             decimals: 0,
         };
-    }
-    if t[0] != b'.' {
+    };
+    if *first != b'.' {
         return Number::Wrong(n);
     }
-    let from = n + 1;
-    fraction(from, base, &t[1..])
+    fraction(n + 1, base, rest)
 }
 
 // The number that a whole text is: one operand.
@@ -177,11 +141,7 @@ fn read_of(n: Number, size: usize) -> usize
     ensures { result ≡ read_of n size }
 {
     match n {
-        Number::Absent => size,
-        Number::Is {
-            thousandths: _,
-            decimals: _,
-        } => size,
+        Number::Absent | Number::Is { .. } => size,
         Number::Wrong(read) => read,
     }
 }
@@ -191,25 +151,27 @@ pub fn only(t: &[u8]) -> Single
     ensures { result ≡ single_of t.now }
 {
     let number = one(t);
-    let read = read_of(number, t.len());
-    Single { number, read }
+    Single {
+        number,
+        read: read_of(number, t.len()),
+    }
 }
 
 // The number behind the comma that a text begins with, with how far the text was read.
 fn behind_comma(t: &[u8]) -> Single
     ensures { result ≡ comma_of t.now }
 {
-    if t.len() == 0 {
+    let Some((_, rest)) = t.split_first() else {
         return Single {
             number: Number::Absent,
             read: 0,
         };
+    };
+    let second = only(rest);
+    Single {
+        number: second.number,
+        read: 1 + second.read,
     }
-    let second = only(&t[1..]);
-    let number = second.number;
-    let behind = second.read;
-    let read = 1 + behind;
-    Single { number, read }
 }
 
 // The two numbers that a whole text is, with how far it was read: two operands.
@@ -218,19 +180,16 @@ pub fn two(t: &[u8]) -> Pair
 {
     let k = run_length(t, Class::NoComma);
     let first = one(&t[..k]);
-    let behind = behind_comma(&t[k..]);
-    let second = behind.number;
-    let further = behind.read;
-    let right = k + further;
-    let read = read_of(first, right);
+    let second = behind_comma(&t[k..]);
     Pair {
         first,
-        second,
-        read,
+        second: second.number,
+        read: read_of(first, k + second.read),
     }
 }
 
 // How long the operand text is that a text begins with.
+#[tactic(auto, using(crate::proofs::Runs::counted_run))]
 pub fn extent(t: &[u8]) -> usize
     ensures { result ≡ length (operand_text t.now) }
 {

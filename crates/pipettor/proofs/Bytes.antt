@@ -8,6 +8,9 @@ use borrow.Author.Tests.{lt-ltb, le-ltb}
 use lib.Dec.{ltb, eqb}
 use lib.ListN.{length, take, length-set, length-take}
 use lib.Seq.{length-take-le}
+use Rattle.std.specs.Prelude.{Err, Option, Some}
+use Rattle.pipettor.specs.Said.{Said, s1}
+use Rattle.line.specs.declared.Report.{Report}
 use Rattle.basics.proofs.Over.{length_over}
 use Rattle.basics.proofs.Choice.{by}
 use Rattle.text.specs.declared.Data.{Data}
@@ -18,6 +21,7 @@ use Rattle.text.proofs.Strings.{a_text_stands_in_front}
 use Rattle.line.specs.declared.Deed.{Deed}
 use Rattle.line.specs.declared.Deed.TheVariants as W
 use Rattle.line.specs.declared.Heard.{Heard}
+use Rattle.line.specs.declared.Line.{Line}
 use Rattle.line.specs.declared.Framing.{Framing}
 use Rattle.line.specs.Wire.{framing_of, hear_of, keep_of}
 use Rattle.machine.specs.declared.step.Core.{Core}
@@ -27,13 +31,8 @@ use Rattle.reports.specs.Reports.{Tellable}
 use Rattle.machine.specs.Act.{acted}
 use Rattle.machine.specs.Run.{ready_of}
 use Rattle.machine.specs.Device.{device}
-use Rattle.pipettor.specs.declared.acting.Got.{Got}
-use Rattle.pipettor.specs.declared.acting.Got.TheVariants as G
 use Rattle.pipettor.specs.declared.acting.Task.{Task}
-use Rattle.pipettor.specs.declared.acting.Outcome.{Outcome}
 use Rattle.pipettor.specs.declared.Controller.{Controller}
-use Rattle.pipettor.specs.declared.Said.{Said}
-use Rattle.pipettor.specs.declared.Said.TheVariants.{S1}
 use Rattle.pipettor.specs.Address.{letter_of}
 use Rattle.pipettor.specs.Byte.{fetched_of, squeezed_in, got_of, squeezed_of, Gotten, task_of, size_of, performed_of, outcome_of, Spoken, dealt_of, after, reply, heard_of, byte_of}
 
@@ -57,7 +56,7 @@ squeezed_length ours (W.Frame a n) f =
     (λ _. refl)
 
 -- a text is no longer than the frame that brought it
-data_size : (t : List ℕ) (d : Data) → data_of t ≡ d → size_of (G.Data d) ≤ length t
+data_size : (t : List ℕ) (d : Data) → data_of t ≡ d → size_of (Some d) ≤ length t
 data_size t (D.Report q) e = omega arith
 data_size t D.WrongReport e = omega arith
 data_size t (D.Control c) e = omega arith
@@ -70,13 +69,13 @@ unfolding got_of fetched_of
 got_size ours W.Nothing f = omega arith
 got_size ours (W.Keep at) f = omega arith
 got_size ours (W.Frame a n) f =
-    by (λ (g : Got). size_of g ≤ length f) (eqb a ours)
+    by (λ (g : Option Data). size_of g ≤ length f) (eqb a ours)
     (λ _.
-    by (λ (g : Got). size_of g ≤ length f) (ltb 320 n) (λ _. omega arith)
+    by (λ (g : Option Data). size_of g ≤ length f) (ltb 320 n) (λ _. omega arith)
     (λ _. let h = data_size (spaceless (take n f)) _ refl in omega (arith, h, part_short n f)))
     (λ _. omega arith)
 
-module _ (ours : ℕ) (d : Deed) (f : List ℕ) (got : Got) (g : List ℕ) (n : ℕ) where
+module _ (ours : ℕ) (d : Deed) (f : List ℕ) (got : Option Data) (g : List ℕ) (n : ℕ) where
   pub part_fits : length f ≡ 320 → Gotten ours d f got g → n ≡ size_of got → n ≤ length g
   part_fits l e size = let w = squeezed_length ours d f in rw (size, e.got, e.left, w) (got_size ours d f)
 
@@ -88,12 +87,12 @@ pub part_count : (n : ℕ) (l : List ℕ) → n ≤ length l → n ≡ length (t
 part_count n l h = sym (length-take-le n l h)
 
 module _ (k : Controller) (b : ℕ) where
-  pub short : (buf : List ℕ) → length buf < 32 → after (reply k S1) buf ≡ (byte_of k b buf).next
+  pub short : (buf : List ℕ) → length buf < 32 → after (reply k (Err s1)) buf ≡ (byte_of k b buf).next
   unfolding byte_of
   short buf h = rw (lt-ltb (length buf) 32 h)
 
   pub heard :
-      (buf buf' : List ℕ) (h : Heard) (frame squeezed text : List ℕ) (got : Got) (task : Task) (n : ℕ) (o : Outcome) (r : Done) (ready : Bool) (s : Said) (ours : ℕ) (f : Framing) →
+      (buf buf' : List ℕ) (h : Heard Line) (frame squeezed text : List ℕ) (got : Option Data) (task : Task) (n : ℕ) (o : Option (Report × ℕ)) (r : Done) (ready : Bool) (s : Said) (ours : ℕ) (f : Framing) →
       32 ≤ length buf → ours ≡ letter_of k.address → h ≡ hear_of k.line b → frame ≡ keep_of k.frame h.deed b → Gotten ours h.deed frame got squeezed →
       task ≡ task_of got → n ≡ size_of got → ((tip : Bool) → acted text tip r.core r.verdict ≡ (performed_of task (take n squeezed) (device k.device.text tip k.device.core)).next) →
       o ≡ outcome_of got k.address r.verdict k.device.tip k.device.core → ready ≡ ready_of r.core → f ≡ framing_of k.line → Spoken f o ready buf s buf' →

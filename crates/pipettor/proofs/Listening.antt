@@ -29,13 +29,13 @@ module _ (start : Line) (before bytes : List ℕ) where
     unfolding feed
     ended e = let c = rw e at a.count in record { receiver = rw e at a.same; count = omega arith }
 
-    pub ends : length bytes ≤ n → UpToFrame start before bytes (record { line = l; n = n }) f
+    pub ends : length bytes ≤ n → UpToFrame start before bytes (record { line = l; n = length bytes }) f
     unfolding before_frame
-    ends h = ended (rw (drop_of_length-le bytes h))
+    ends h = let e : n ≡ length bytes = omega (arith, a.within) in rw (← e) (ended (rw (drop_of_length-le bytes h)))
 
-    module _ (h : n < length bytes) (heard : Heard) (e : heard ≡ hear_of l (get_or bytes n 0)) (t : Bool) (q : t ≡ is_whole heard.deed) where
+    module _ (h : n < length bytes) (heard : Heard Line) (e : heard ≡ hear_of l (get_or bytes n 0)) (t : Bool) (q : t ≡ is_whole heard.deed) where
       whole : is_whole (hear_of l (get_or bytes n 0)).deed ≡ t
-      whole = sym (q ∙ ap (λ (x : Heard). is_whole x.deed) e)
+      whole = sym (q ∙ ap (λ (x : Heard Line). is_whole x.deed) e)
 
       pub at_a_frame : t ≡ true → UpToFrame start before bytes (record { line = l; n = n }) f
       unfolding before_frame

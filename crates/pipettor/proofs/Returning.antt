@@ -3,12 +3,13 @@ use mathlib.Core.Path.{◌≡◌}
 use mathlib.Core.List.{List}
 use Prim.Native.Nat.{ℕ, ◌<◌}
 use lib.ListN.{length}
+use Rattle.std.specs.Prelude.{Err}
+use Rattle.pipettor.specs.Said.{s1}
 use Rattle.line.specs.declared.Framing.{Framing}
 use Rattle.motion.specs.declared.Sense.{Sense}
 use Rattle.machine.specs.Valid as Machine
 use Rattle.pipettor.specs.declared.address.Address.{Address}
 use Rattle.pipettor.specs.declared.Controller.{Controller}
-use Rattle.pipettor.specs.declared.Said.TheVariants.{S1}
 use Rattle.pipettor.specs.declared.Ticked.{Ticked}
 use Rattle.pipettor.specs.declared.Ran.{Ran}
 use Rattle.pipettor.specs.declared.Listened.{Listened}
@@ -40,7 +41,7 @@ module _ (k : Controller) where
   listen_keeps bytes r e = record { is = e; again = λ v. rw e (listen_keeps_valid k bytes v) }
 
 -- a byte that isn't heard
-pub short_returns : (k : Controller) (b : ℕ) (buf : List ℕ) → Machine.Valid k.device.core → length buf < 32 → Returns (after (reply k S1) buf) (byte_of k b buf).next k
+pub short_returns : (k : Controller) (b : ℕ) (buf : List ℕ) → Machine.Valid k.device.core → length buf < 32 → Returns (after (reply k (Err s1)) buf) (byte_of k b buf).next k
 short_returns k b buf v h = record { is = short k b buf h; again = record { core = v } }
 
 -- what a program goes by that calls a method which asks nothing

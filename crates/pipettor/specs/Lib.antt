@@ -1,3 +1,4 @@
+pub mod Said
 pub mod Address
 pub mod Byte
 pub mod Controller

@@ -15,31 +15,33 @@ pub enum Address {
     Nine,
 }
 
-// An address, or that the number is none.
+// The number is no address.
 #[derive(Clone, Copy)]
-pub enum Given {
-    Is(Address),
-    S2,
-}
+pub struct S2;
 
-impl Address {
-    pub fn of(n: u32) -> Given
+impl TryFrom<u32> for Address {
+    type Error = S2;
+
+    #[tactic(auto, unfolding(crate::specs::Address::address_of))]
+    fn try_from(n: u32) -> Result<Address, S2>
         ensures { result ≡ address_of n }
     {
         match n {
-            1 => Given::Is(Address::One),
-            2 => Given::Is(Address::Two),
-            3 => Given::Is(Address::Three),
-            4 => Given::Is(Address::Four),
-            5 => Given::Is(Address::Five),
-            6 => Given::Is(Address::Six),
-            7 => Given::Is(Address::Seven),
-            8 => Given::Is(Address::Eight),
-            9 => Given::Is(Address::Nine),
-            _ => Given::S2,
+            1 => Ok(Address::One),
+            2 => Ok(Address::Two),
+            3 => Ok(Address::Three),
+            4 => Ok(Address::Four),
+            5 => Ok(Address::Five),
+            6 => Ok(Address::Six),
+            7 => Ok(Address::Seven),
+            8 => Ok(Address::Eight),
+            9 => Ok(Address::Nine),
+            _ => Err(S2),
         }
     }
+}
 
+impl Address {
     // Its character on the line.
     pub fn letter(self) -> u8
         ensures { result ≡ letter_of self }

@@ -7,7 +7,7 @@ ghost use Rattle.pipettor.specs.Returns.{Returns, Performs};
 
 use crate::acting::Task;
 use crate::address::Address;
-use crate::{Said, acting};
+use crate::{S1, Said, acting};
 use line::Line;
 use machine::act::Done;
 use machine::step::Core;
@@ -37,6 +37,30 @@ fn perform(task: Task, c: Core, frame: &[u8], n: usize, text: &mut [u8; 256]) ->
 }
 
 impl Parts {
+    // One byte received, with a buffer that has room for any answer.
+    fn hear(self, b: u8, frame: &mut [u8; 320], text: &mut [u8; 256], buf: &mut [u8]) -> Spoke
+        requires valid { Valid self.core }
+        requires room { 32 ≤ length buf.old }
+        ensures { Returns (after (reply (whole result.parts frame.new text.new) result.said) buf.new) (byte_of (whole self frame.old text.old) b buf.old).next (whole result.parts frame.new text.new) }
+    {
+        let heard = self.line.hear(b);
+        line::keep(frame, heard.deed, b);
+        let got = acting::get(frame, heard.deed, self.address.letter());
+        let task = acting::asked(got);
+        let n = acting::size(got);
+        let done = perform(task, self.core, frame, n, text);
+        let outcome = acting::outcome(got, self.address, done.verdict, self.tip, self.core);
+        let said = acting::say(outcome, self.line.framing(), done.core.ready(), buf);
+        Spoke {
+            parts: Parts {
+                line: heard.line,
+                core: done.core,
+                ..self
+            },
+            said,
+        }
+    }
+
     // One byte received, with a buffer lent for the answer.
     pub fn byte(self, b: u8, frame: &mut [u8; 320], text: &mut [u8; 256], buf: &mut [u8]) -> Spoke
         requires { Valid self.core }
@@ -45,32 +69,9 @@ impl Parts {
         if buf.len() < 32 {
             return Spoke {
                 parts: self,
-                said: Said::S1,
+                said: Err(S1),
             };
         }
-        let address = self.address;
-        let line = self.line;
-        let core = self.core;
-        let heard = line.hear(b);
-        let deed = heard.deed;
-        let next = heard.line;
-        line::keep(frame, deed, b);
-        let got = acting::get(frame, deed, address.letter());
-        let task = got.task();
-        let n = got.size();
-        let done = perform(task, core, frame, n, text);
-        let after = done.core;
-        let verdict = done.verdict;
-        let outcome = got.outcome(address, verdict, self.tip, core);
-        let said = outcome.say(line.framing(), after.ready(), buf);
-        Spoke {
-            parts: Parts {
-                address,
-                line: next,
-                tip: self.tip,
-                core: after,
-            },
-            said,
-        }
+        self.hear(b, frame, text, buf)
     }
 }

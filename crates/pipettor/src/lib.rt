@@ -13,10 +13,10 @@ ghost use Rattle.pipettor.specs.Controller.{on, made_of, ticked, ticked_of, stop
 ghost use Rattle.pipettor.specs.Listening.{UpToFrame, listened_of};
 
 use address::Address;
-use lent::Parts;
+use lent::{Parts, Spoke};
 use line::{Framing, Line};
 use machine::step::News;
-use machine::{Device, Turned, Used};
+use machine::{Device, S3, Turned};
 use motion::Sense;
 
 // The receiver's line and the frame in hand; the buffer, its text and the plunger.
@@ -28,13 +28,12 @@ pub struct Controller {
     pub device: Device,
 }
 
-// Nothing, an answer of so many bytes, or that the buffer lent is shorter than 32 bytes.
+// The buffer lent is shorter than 32 bytes.
 #[derive(Clone, Copy)]
-pub enum Said {
-    Silent,
-    Answer(usize),
-    S1,
-}
+pub struct S1;
+
+// Nothing, or an answer of so many bytes; or S1.
+pub type Said = Result<Option<usize>, S1>;
 
 #[derive(Clone, Copy)]
 pub struct Reply {
@@ -59,7 +58,7 @@ pub struct Ticked {
 #[derive(Clone, Copy)]
 pub struct Ran {
     pub ticked: Ticked,
-    pub used: Used,
+    pub used: Result<u32, S3>,
 }
 
 // A line that has taken so many bytes.
@@ -74,31 +73,29 @@ pub fn receive(start: Line, frame: &mut [u8; 320], bytes: &[u8]) -> Taken
     ensures { UpToFrame start frame.old bytes.now result frame.new }
 {
     let mut line = start;
-    let mut n = 0;
-    while n < bytes.len() {
-        let b = bytes[n];
-        let heard = line.hear(b);
-        let deed = heard.deed;
-        if deed.is_whole() {
+    for (n, b) in bytes.iter().enumerate() {
+        let heard = line.hear(*b);
+        if heard.deed.is_whole() {
             return Taken { line, n };
         }
-        line::keep(frame, deed, b);
+        line::keep(frame, heard.deed, *b);
         line = heard.line;
-        n += 1;
     }
-    Taken { line, n }
+    Taken {
+        line,
+        n: bytes.len(),
+    }
 }
 
 impl Controller {
     pub fn fresh(framing: Framing, address: Address) -> Controller
         ensures { Returns result (made_of framing address).next result }
     {
-        let device = Device::fresh();
         Controller {
             address,
             line: Line::fresh(framing),
-            frame: [0u8; 320],
-            device,
+            frame: [0; 320],
+            device: Device::fresh(),
         }
     }
 
@@ -107,33 +104,24 @@ impl Controller {
         requires { Valid self }
         ensures { Returns (after result buf.new) (byte_of self b buf.old).next result.controller }
     {
-        let address = self.address;
-        let line = self.line;
         let mut frame = self.frame;
-        let device = self.device;
-        let mut text = device.text;
-        let core = device.core;
+        let mut text = self.device.text;
         let parts = Parts {
-            address,
-            line,
-            tip: device.tip,
-            core,
+            address: self.address,
+            line: self.line,
+            tip: self.device.tip,
+            core: self.device.core,
         };
-        let spoke = parts.byte(b, &mut frame, &mut text, buf);
-        let after = spoke.parts;
-        let said = spoke.said;
-        let same = after.address;
-        let next = after.line;
-        let done = after.core;
+        let Spoke { parts, said } = parts.byte(b, &mut frame, &mut text, buf);
         Reply {
             controller: Controller {
-                address: same,
-                line: next,
+                address: parts.address,
+                line: parts.line,
                 frame,
                 device: Device {
                     text,
-                    tip: after.tip,
-                    core: done,
+                    tip: parts.tip,
+                    core: parts.core,
                 },
             },
             said,
@@ -144,19 +132,13 @@ impl Controller {
     pub fn listen(self, bytes: &[u8]) -> Listened
         ensures { Keeps result (listened_of self bytes.now) self result.controller }
     {
-        let address = self.address;
-        let line = self.line;
         let mut frame = self.frame;
-        let device = self.device;
-        let taken = receive(line, &mut frame, bytes);
-        let next = taken.line;
-        let n = taken.n;
+        let Taken { line, n } = receive(self.line, &mut frame, bytes);
         Listened {
             controller: Controller {
-                address,
-                line: next,
+                line,
                 frame,
-                device,
+                ..self
             },
             n,
         }
@@ -165,25 +147,15 @@ impl Controller {
     fn on(self, device: Device) -> Controller
         ensures { result ≡ on device self }
     {
-        let address = self.address;
-        let line = self.line;
-        let frame = self.frame;
-        Controller {
-            address,
-            line,
-            frame,
-            device,
-        }
+        Controller { device, ..self }
     }
 
     fn ticked(self, turned: Turned) -> Ticked
         ensures { result ≡ ticked turned self }
     {
-        let device = turned.device;
-        let news = turned.news;
         Ticked {
-            controller: self.on(device),
-            news,
+            controller: self.on(turned.device),
+            news: turned.news,
         }
     }
 
@@ -192,8 +164,7 @@ impl Controller {
         requires { Valid self }
         ensures { Returns result (ticked_of sense self).next result.controller }
     {
-        let device = self.device;
-        self.ticked(device.tick(sense))
+        self.ticked(self.device.tick(sense))
     }
 
     // Exactly n ticks, ready or not.
@@ -201,8 +172,7 @@ impl Controller {
         requires { Valid self }
         ensures { Returns result (advanced_of n sense self) result.controller }
     {
-        let device = self.device;
-        self.ticked(device.advance(n, sense))
+        self.ticked(self.device.advance(n, sense))
     }
 
     // Up to n ticks, until ready.
@@ -210,13 +180,10 @@ impl Controller {
         requires { Valid self }
         ensures { Returns result (run_of n sense self) result.ticked.controller }
     {
-        let device = self.device;
-        let ran = device.run(n, sense);
-        let turned = ran.turned;
-        let used = ran.used;
+        let ran = self.device.run(n, sense);
         Ran {
-            ticked: self.ticked(turned),
-            used,
+            ticked: self.ticked(ran.turned),
+            used: ran.used,
         }
     }
 
@@ -224,23 +191,19 @@ impl Controller {
     pub fn framing(self) -> Framing
         ensures { result ≡ framing_is self }
     {
-        let line = self.line;
-        line.framing()
+        self.line.framing()
     }
 
     pub fn ready(self) -> bool
         ensures { result ≡ ready_is self }
     {
-        let device = self.device;
-        let core = device.core;
-        core.ready()
+        self.device.core.ready()
     }
 
     // T, from the host.
     pub fn stop(self) -> Controller
         ensures { Keeps result (stopped_of self).next self result }
     {
-        let device = self.device;
-        self.on(device.stop())
+        self.on(self.device.stop())
     }
 }

@@ -5,9 +5,9 @@ ghost use Rattle.std.specs.Prelude.{◌≤◌};
 ghost use Rattle.pipettor.specs.Valid.{Valid};
 
 use line::Framing;
-use machine::Used;
+use machine::S3;
 use motion::Sense;
-use pipettor::address::{Address, Given};
+use pipettor::address::{Address, S2};
 use pipettor::{Controller, Said};
 use std::io::{self, Stdout};
 
@@ -25,9 +25,9 @@ fn name(out: Stdout, b: u8) -> io::Result<()> {
 
 fn word(out: Stdout, said: Said) -> io::Result<()> {
     match said {
-        Said::Silent => print!(out; "  silent    "),
-        Said::Answer(n) => print!(out; "  answer {n}  "),
-        Said::S1 => print!(out; "  S1        "),
+        Ok(None) => print!(out; "  silent    "),
+        Ok(Some(n)) => print!(out; "  answer {n}  "),
+        Err(S1) => print!(out; "  S1        "),
     }
 }
 
@@ -55,7 +55,7 @@ fn heart(out: Stdout, buf: &[u8], n: usize) -> io::Result<()> {
 // A byte in a line of them, and what was said to it: silence is worth a word at a CR.
 fn noted(out: Stdout, b: u8, said: Said, buf: &[u8]) -> io::Result<()> {
     match said {
-        Said::Silent => {
+        Ok(None) => {
             if b == 13 {
                 return print!(out; " (silent)");
             }
@@ -64,11 +64,11 @@ fn noted(out: Stdout, b: u8, said: Said, buf: &[u8]) -> io::Result<()> {
             }
             name(out, b)
         }
-        Said::Answer(n) => {
+        Ok(Some(n)) => {
             print!(out; " ")?;
             heart(out, buf, n)
         }
-        Said::S1 => print!(out; " S1"),
+        Err(S1) => print!(out; " S1"),
     }
 }
 
@@ -181,13 +181,13 @@ fn begin(c: Controller, text: &[u8]) -> Controller
 // What a controller made with an address answers to f, at each digit.
 fn address(out: Stdout, n: u32) -> io::Result<()> {
     print!(out; "{n}:")?;
-    match Address::of(n) {
-        Given::Is(a) => talk(
+    match Address::try_from(n) {
+        Ok(a) => talk(
             out,
             &mut made(a),
             b"/0f\r/1f\r/2f\r/3f\r/4f\r/5f\r/6f\r/7f\r/8f\r/9f\r\n",
         ),
-        Given::S2 => println!(out; " S2"),
+        Err(S2) => println!(out; " S2"),
     }
 }
 
@@ -253,10 +253,10 @@ fn wait(out: Stdout, c: &mut Controller, n: u32) -> io::Result<()>
     place(out, c)
 }
 
-fn used(out: Stdout, n: u32, u: Used) -> io::Result<()> {
+fn used(out: Stdout, n: u32, u: Result<u32, S3>) -> io::Result<()> {
     match u {
-        Used::Ticks(k) => println!(out; "  run of {n}: {k}"),
-        Used::S3 => println!(out; "  run of {n}: S3"),
+        Ok(k) => println!(out; "  run of {n}: {k}"),
+        Err(S3) => println!(out; "  run of {n}: S3"),
     }
 }
 

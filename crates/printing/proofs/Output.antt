@@ -9,38 +9,39 @@ use mir.Val.{Fits}
 use borrow.Author.Tests.{le-leb, lt-leb, ne_eqb}
 use lib.Dec.{leb, eqb}
 use lib.ListN.{length, take, drop, get_or, length-append, length-take, length-drop, drop_of_length-le}
+use Rattle.std.specs.Prelude.{Err, None, Ok, Option, Result, Some}
+use Rattle.std.specs.Option.{unwrap_or}
+use Rattle.pipettor.specs.Said.{Said, s1}
+use Rattle.machine.specs.declared.S3.{S3}
+use Rattle.machine.specs.Used.{s3}
 use Rattle.basics.specs.Bytes.{chars}
-use Rattle.basics.specs.declared.Put.{Put}
-use Rattle.basics.specs.declared.Put.TheVariants.{Bytes, NoRoom}
 use Rattle.basics.specs.Lay.{Laid}
 use Rattle.basics.proofs.Choice.{by}
-use Rattle.basics.proofs.Lists.{drop_step, front_counted}
+use Rattle.basics.proofs.Lists.{drop_step}
 use Rattle.basics.proofs.Over.{over_none, length_over}
 use Rattle.basics.proofs.Laying.{laid, over_over}
 use Rattle.decimal.specs.Digits.{digits_of, long_of, fixed_of}
-use Rattle.decimal.proofs.PlaceValue.{digits_at_most_ten, long_at_most_twenty}
 use Rattle.line.specs.Answer.{lf}
 use Rattle.line.specs.declared.Framing.{Framing}
 use Rattle.desk.specs.Desk.{tail_size, printed_of}
 use Rattle.desk.specs.Hex.{digit_for, spaced, hex_of}
-use Rattle.machine.specs.declared.Used.{Used}
-use Rattle.machine.specs.declared.Used.TheVariants.{Ticks, S3}
-use Rattle.pipettor.specs.declared.Said.{Said}
-use Rattle.pipettor.specs.declared.Said.TheVariants.{Silent, Answer, S1}
-use Rattle.printing.specs.Print.{ended, shown_of, last_of, place_of, used_of, pair_of, bar_of, added_of, close_of, Prints}
+use Rattle.printing.specs.Print.{ended, shown_of, last_of, place_of, used_of, pair_of, bar_of, added_of, Prints}
 
 -- a text that fits is laid
-module _ (most : ℕ) (text : List ℕ) (few : length text ≤ most) (at : ℕ) (out after : List ℕ) (r : Put) (room : at + most ≤ length out) (l : Laid text at out r after) where
+module _ (most : ℕ) (text : List ℕ) (few : length text ≤ most) (at : ℕ) (out after : List ℕ) (r : Option ℕ) (room : at + most ≤ length out) (l : Laid text at out r after) where
   there : (k : ℕ) → k ≡ at + length text → Prints most text at out k after
   there k e =
       let put = (laid l (omega arith)).bytes in
       record { ends = e; short = few; left = put; long = rw put (length_over text at out (omega arith)) }
 
-  never : r ≡ NoRoom → ⊥
-  never q = let count = (laid l (omega arith)).count in let z : ◌≡◌ {A = ℕ} 0 1 = cc in omega arith
+  size : (n : ℕ) → n ≡ unwrap_or r 0 → n ≡ length text
+  size n q = rw (laid l (omega arith)).count at q
 
-  size : (n : ℕ) → r ≡ Bytes n → n ≡ length text
-  size n q = let count = (laid l (omega arith)).count in cc
+  pub counted_fits : (n : ℕ) → n ≡ unwrap_or r 0 → Fits w64 (length out) → Fits w64 (at + n)
+  counted_fits n q f = omega (arith, size n q)
+
+  pub counted_prints : (n : ℕ) → n ≡ unwrap_or r 0 → Prints most text at out (at + n) after
+  counted_prints n q = there (at + n) (ap (λ (x : ℕ). at + x) (size n q))
 
 -- one text behind another
 pub both :
@@ -67,51 +68,16 @@ shorter m k text at e out after h p = let c = p.short in record { ends = p.ends;
 pub nothing : (k at : ℕ) (out : List ℕ) → Prints k [] at out at out
 nothing k at out = record { ends = omega arith; short = omega arith; left = sym (over_none at out); long = refl }
 
-pub put_down : (text : List ℕ) (at : ℕ) (out after : List ℕ) (r : Put) → at + length text ≤ length out → Laid text at out r after → Prints (length text) text at out (at + length text) after
+pub put_down : (text : List ℕ) (at : ℕ) (out after : List ℕ) (r : Option ℕ) → at + length text ≤ length out → Laid text at out r after → Prints (length text) text at out (at + length text) after
 put_down text at out after r h l = there (length text) text (omega arith) at out after r h l (at + length text) refl
 
 pub lined : (text : List ℕ) (at e f : ℕ) (out one two : List ℕ) → at + length text + 1 ≤ length out → Prints (length text) text at out e one → Prints 1 (10 ∷ []) e one f two → Prints (length text + 1) (ended text) at out f two
 lined text at e f out one two h p q = both (length text) 1 (length text + 1) text (lf ∷ []) at e f out one two (omega arith) (omega arith) p q
 
--- numbers
-module _ (n at : ℕ) (out after : List ℕ) (r : Put) where
-  module _ (room : at + 10 ≤ length out) (l : Laid (fixed_of 0 n) at out r after) where
-    digits_laid : Laid (digits_of n) at out r after
-    unfolding fixed_of
-    digits_laid = l
-
-    few : length (digits_of n) ≤ 10
-    few = digits_at_most_ten n
-
-    pub whole_fits : (m : ℕ) → r ≡ Bytes m → Fits w64 (length out) → Fits w64 (at + m)
-    whole_fits m q f = omega (arith, size 10 (digits_of n) few at out after r room digits_laid m q, few)
-
-    pub whole_printed : (m : ℕ) → r ≡ Bytes m → Prints 10 (digits_of n) at out (at + m) after
-    whole_printed m q = there 10 (digits_of n) few at out after r room digits_laid (at + m) (ap (λ (x : ℕ). at + x) (size 10 (digits_of n) few at out after r room digits_laid m q))
-
-    pub whole_has_room : r ≡ NoRoom → Prints 10 (digits_of n) at out at after
-    whole_has_room q = absurd (never 10 (digits_of n) few at out after r room digits_laid q)
-
-  module _ (room : at + 20 ≤ length out) (l : Laid (long_of n) at out r after) where
-    many : length (long_of n) ≤ 20
-    many = long_at_most_twenty n
-
-    pub long_fits : (m : ℕ) → r ≡ Bytes m → Fits w64 (length out) → Fits w64 (at + m)
-    long_fits m q f = omega (arith, size 20 (long_of n) many at out after r room l m q, many)
-
-    pub long_printed : (m : ℕ) → r ≡ Bytes m → Prints 20 (long_of n) at out (at + m) after
-    long_printed m q = there 20 (long_of n) many at out after r room l (at + m) (ap (λ (x : ℕ). at + x) (size 20 (long_of n) many at out after r room l m q))
-
-    pub long_has_room : r ≡ NoRoom → Prints 20 (long_of n) at out at after
-    long_has_room q = absurd (never 20 (long_of n) many at out after r room l q)
-
--- whether a tick asked
-module _ (asked : Bool) (at r : ℕ) (out after : List ℕ) where
-  pub asked_last : asked ≡ true → Prints 7 (ended (32 ∷ 101 ∷ 106 ∷ 101 ∷ 99 ∷ 116 ∷ [])) at out r after → Prints 7 (last_of asked) at out r after
-  asked_last e p = rw e p
-
-  pub unasked_last : asked ≡ false → Prints 1 (10 ∷ []) at out r after → Prints 7 (last_of asked) at out r after
-  unasked_last e p = rw e (shorter 1 7 (ended []) at r out after (omega arith) p)
+-- a number of 32 bits
+pub digits_laid : (n at : ℕ) (out after : List ℕ) (r : Option ℕ) → Laid (fixed_of 0 n) at out r after → Laid (digits_of n) at out r after
+unfolding fixed_of
+digits_laid n at out after r l = l
 
 -- the plunger, a space, the exact position
 module _ (p x at a b c d : ℕ) (asked : Bool) (out one two three four : List ℕ) (room : at + 38 ≤ length out) (w : Prints 10 (digits_of p) at out a one) (s : Prints 1 (32 ∷ []) a one b two) where
@@ -125,12 +91,12 @@ module _ (p x at a b c d : ℕ) (asked : Bool) (out one two three four : List �
       both 31 7 38 ((digits_of p ++ chars " ") ++ long_of x) (last_of asked) at c d out three four (omega arith) (omega arith) body e
 
 -- what a run used
-module _ (u : Used) (p x at : ℕ) (asked : Bool) (out : List ℕ) (room : at + 49 ≤ length out) where
-  pub too_long_a_run : (r : ℕ) (after : List ℕ) → u ≡ S3 → Prints 3 (ended (83 ∷ 51 ∷ [])) at out r after → Prints 49 (used_of u p x asked) at out r after
+module _ (u : Result ℕ S3) (p x at : ℕ) (asked : Bool) (out : List ℕ) (room : at + 49 ≤ length out) where
+  pub too_long_a_run : (r : ℕ) (after : List ℕ) → u ≡ Err s3 → Prints 3 (ended (83 ∷ 51 ∷ [])) at out r after → Prints 49 (used_of u p x asked) at out r after
   unfolding used_of
   too_long_a_run r after e q = rw e (shorter 3 49 (ended (chars "S3")) at r out after (omega arith) q)
 
-  pub ran : (n a b c : ℕ) (one two three : List ℕ) → u ≡ Ticks n → Prints 10 (digits_of n) at out a one → Prints 1 (32 ∷ []) a one b two → Prints 38 (place_of p x asked) b two c three → Prints 49 (used_of u p x asked) at out c three
+  pub ran : (n a b c : ℕ) (one two three : List ℕ) → u ≡ Ok n → Prints 10 (digits_of n) at out a one → Prints 1 (32 ∷ []) a one b two → Prints 38 (place_of p x asked) b two c three → Prints 49 (used_of u p x asked) at out c three
   unfolding used_of
   ran n a b c one two three e w s l =
       let front = both 10 1 11 (digits_of n) (chars " ") at a b out one two (omega arith) (omega arith) w s in
@@ -145,11 +111,11 @@ printed_short f n answer =
     by (λ (t : List ℕ). length t ≤ length answer) (leb n (length answer)) (λ e. omega (arith, part, rest)) (λ e. omega arith)
 
 module _ (f : Framing) (said : Said) (answer : List ℕ) (v : length answer ≤ 64) (at : ℕ) (out : List ℕ) (room : at + 65 ≤ length out) where
-  pub shows_silence : (r : ℕ) (after : List ℕ) → said ≡ Silent → Prints 2 (ended (45 ∷ [])) at out r after → Prints 65 (shown_of f said answer) at out r after
+  pub shows_silence : (r : ℕ) (after : List ℕ) → said ≡ Ok None → Prints 2 (ended (45 ∷ [])) at out r after → Prints 65 (shown_of f said answer) at out r after
   unfolding shown_of
   shows_silence r after e q = rw e (shorter 2 65 (ended (chars "-")) at r out after (omega arith) q)
 
-  pub shows_s1 : (r : ℕ) (after : List ℕ) → said ≡ S1 → Prints 3 (ended (83 ∷ 49 ∷ [])) at out r after → Prints 65 (shown_of f said answer) at out r after
+  pub shows_s1 : (r : ℕ) (after : List ℕ) → said ≡ Err s1 → Prints 3 (ended (83 ∷ 49 ∷ [])) at out r after → Prints 65 (shown_of f said answer) at out r after
   unfolding shown_of
   shows_s1 r after e q = rw e (shorter 3 65 (ended (chars "S1")) at r out after (omega arith) q)
 
@@ -157,7 +123,7 @@ module _ (f : Framing) (said : Said) (answer : List ℕ) (v : length answer ≤ 
     pub shown_fits : at + length shown + 1 ≤ length out
     shown_fits = let s : length shown ≤ length answer = rw p (printed_short f n answer) in omega arith
 
-    pub shows : (r : ℕ) (after : List ℕ) → said ≡ Answer n → Prints (length shown + 1) (ended shown) at out r after → Prints 65 (shown_of f said answer) at out r after
+    pub shows : (r : ℕ) (after : List ℕ) → said ≡ Ok (Some n) → Prints (length shown + 1) (ended shown) at out r after → Prints 65 (shown_of f said answer) at out r after
     unfolding shown_of
     shows r after e q =
         let s : length shown ≤ length answer = rw p (printed_short f n answer) in
@@ -222,20 +188,17 @@ module _ (bytes : List ℕ) (at : ℕ) (before : List ℕ) where
 pub no_bar : (first : Bool) (at : ℕ) (out : List ℕ) → first ≡ true → Prints 3 (bar_of first) at out at out
 no_bar first at out e = rw e (nothing 3 at out)
 
-pub a_bar : (first : Bool) (at r : ℕ) (out after : List ℕ) → first ≡ false → Prints 3 (32 ∷ 124 ∷ 32 ∷ []) at out r after → Prints 3 (bar_of first) at out r after
-a_bar first at r out after e p = rw e p
-
 pub barred_hex :
     (first : Bool) (answer : List ℕ) (at a r : ℕ) (out one after : List ℕ) → length answer ≤ 64 → at + 195 ≤ length out → Prints 3 (bar_of first) at out a one → Prints (3 * length answer) (hex_of answer) a one r after →
     Prints 195 (bar_of first ++ hex_of answer) at out r after
 barred_hex first answer at a r out one after v room p q = both 3 (3 * length answer) 195 (bar_of first) (hex_of answer) at a r out one after (omega arith) (omega arith) p q
 
 module _ (first : Bool) (said : Said) (answer : List ℕ) (at : ℕ) (out : List ℕ) where
-  pub says_nothing : said ≡ Silent → Prints 195 (added_of first said answer) at out at out
+  pub says_nothing : said ≡ Ok None → Prints 195 (added_of first said answer) at out at out
   unfolding added_of
   says_nothing e = rw e (nothing 195 at out)
 
-  module _ (n : ℕ) (e : said ≡ Answer n) where
+  module _ (n : ℕ) (e : said ≡ Ok (Some n)) where
     pub says_too_much : length answer < n → Prints 195 (added_of first said answer) at out at out
     unfolding added_of
     says_too_much h = rw (e, lt-leb n (length answer) h) (nothing 195 at out)
@@ -244,19 +207,6 @@ module _ (first : Bool) (said : Said) (answer : List ℕ) (at : ℕ) (out : List
     unfolding added_of
     says_bytes r after h p = rw (e, le-leb n (length answer) h) p
 
-  pub part_counted : (n : ℕ) → n ≤ length answer → n ≡ length (take n answer)
-  part_counted n h = front_counted n answer h
-
-  pub part_short : (n : ℕ) → length answer ≤ 64 → n ≤ length answer → length (take n answer) ≤ 64
-  part_short n v h = omega (arith, length-take n answer)
-
-  pub says_s1 : (a r : ℕ) (one after : List ℕ) → at + 195 ≤ length out → said ≡ S1 → Prints 3 (bar_of first) at out a one → Prints 2 (83 ∷ 49 ∷ []) a one r after → Prints 195 (added_of first said answer) at out r after
+  pub says_s1 : (a r : ℕ) (one after : List ℕ) → at + 195 ≤ length out → said ≡ Err s1 → Prints 3 (bar_of first) at out a one → Prints 2 (83 ∷ 49 ∷ []) a one r after → Prints 195 (added_of first said answer) at out r after
   unfolding added_of
   says_s1 a r one after room e p q = rw e (both 3 2 195 (bar_of first) (chars "S1") at a r out one after (omega arith) (omega arith) p q)
-
-module _ (first : Bool) (at r : ℕ) (out after : List ℕ) where
-  pub all_silent : first ≡ true → Prints 2 (ended (45 ∷ [])) at out r after → Prints 2 (close_of first) at out r after
-  all_silent e p = rw e p
-
-  pub something_said : first ≡ false → Prints 1 (10 ∷ []) at out r after → Prints 2 (close_of first) at out r after
-  something_said e p = rw e (shorter 1 2 (lf ∷ []) at r out after (omega arith) p)

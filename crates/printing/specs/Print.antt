@@ -1,5 +1,7 @@
 -- What lines print: 01, "The bench program", and the training rig.
-use Rattle.std.specs.Prelude.{ℕ, ◌+◌, ◌≤◌, ◌/◌, ◌%◌, ◌≡◌, Bool, true, false, not, List, [], ◌∷◌, ◌++◌, leb, eqb, length, take, if◌then◌else◌}
+use Rattle.std.specs.Prelude.{ℕ, ◌+◌, ◌≤◌, ◌/◌, ◌%◌, ◌≡◌, Bool, true, false, not, List, [], ◌∷◌, ◌++◌, leb, eqb, length, take, if◌then◌else◌, Err, None, Ok, Result, Some}
+use Rattle.pipettor.specs.Said.{Said}
+use Rattle.machine.specs.declared.S3.{S3}
 use Rattle.basics.specs.Bytes.{chars, every}
 use Rattle.basics.specs.Lay.{over}
 use Rattle.decimal.specs.Digits.{digits_of, long_of}
@@ -7,10 +9,6 @@ use Rattle.line.specs.declared.Framing.{Framing}
 use Rattle.line.specs.Answer.{lf}
 use Rattle.desk.specs.Desk.{printed_of}
 use Rattle.desk.specs.Hex.{digit_for, hex_of}
-use Rattle.machine.specs.declared.Used.{Used}
-use Rattle.machine.specs.declared.Used.TheVariants.{Ticks, S3}
-use Rattle.pipettor.specs.declared.Said.{Said}
-use Rattle.pipettor.specs.declared.Said.TheVariants.{Silent, Answer, S1}
 
 -- a line
 abbrev pub ended : List ℕ → List ℕ
@@ -18,9 +16,9 @@ ended text = text ++ (lf ∷ [])
 
 -- "for a frame, status and data, or `-` if silent"; "`S1` if the buffer lent is too short"
 unfoldable pub shown_of : Framing → Said → List ℕ → List ℕ
-shown_of f Silent answer = ended (chars "-")
-shown_of f (Answer n) answer = ended (printed_of f n answer)
-shown_of f S1 answer = ended (chars "S1")
+shown_of f (Ok None) answer = ended (chars "-")
+shown_of f (Ok (Some n)) answer = ended (printed_of f n answer)
+shown_of f (Err _) answer = ended (chars "S1")
 
 -- the end of a line of ticks: "` eject` at the end of what `t` and `run` print where a tick asked"
 abbrev pub last_of : Bool → List ℕ
@@ -32,9 +30,9 @@ unfoldable pub place_of : ℕ → ℕ → Bool → List ℕ
 place_of plunger exact asked = ((digits_of plunger ++ chars " ") ++ long_of exact) ++ last_of asked
 
 -- "ticks used, space, plunger, space, exact position; or `S3`"
-unfoldable pub used_of : Used → ℕ → ℕ → Bool → List ℕ
-used_of (Ticks n) plunger exact asked = (digits_of n ++ chars " ") ++ place_of plunger exact asked
-used_of S3 plunger exact asked = ended (chars "S3")
+unfoldable pub used_of : Result ℕ S3 → ℕ → ℕ → Bool → List ℕ
+used_of (Ok n) plunger exact asked = (digits_of n ++ chars " ") ++ place_of plunger exact asked
+used_of (Err _) plunger exact asked = ended (chars "S3")
 
 -- "two answers separated by a space, a bar (7Ch) and a space"
 abbrev pub bar_of : Bool → List ℕ
@@ -43,9 +41,9 @@ bar_of false = chars " | "
 
 -- what a raw byte adds: "each answer's bytes in the same form, `S1` for a byte refused so"
 unfoldable pub added_of : Bool → Said → List ℕ → List ℕ
-added_of first Silent answer = []
-added_of first (Answer n) answer = if leb n (length answer) then bar_of first ++ hex_of (take n answer) else []
-added_of first S1 answer = bar_of first ++ chars "S1"
+added_of first (Ok None) answer = []
+added_of first (Ok (Some n)) answer = if leb n (length answer) then bar_of first ++ hex_of (take n answer) else []
+added_of first (Err _) answer = bar_of first ++ chars "S1"
 
 -- "`-` if all were silent"
 abbrev pub close_of : Bool → List ℕ

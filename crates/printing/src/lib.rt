@@ -1,16 +1,17 @@
 // What lines print: laid into the output from a place on. Each function says where it ends.
+// The output is memory that the caller lends, and `Prints` names the place and the end, so that both stay arguments.
 #![tactic(auto)]
 
-ghost use Rattle.std.specs.Prelude.{◌+◌, ◌*◌, ◌≤◌, ◌++◌, length};
+ghost use Rattle.std.specs.Prelude.{◌+◌, ◌*◌, ◌^◌, ◌≤◌, ◌<◌, ◌++◌, length};
 ghost use Rattle.decimal.specs.Digits.{digits_of, long_of};
 ghost use Rattle.desk.specs.Hex.{hex_of};
 ghost use Rattle.printing.specs.Print.{ended, shown_of, last_of, place_of, used_of, pair_of, bar_of, added_of, close_of, Prints};
 
-use basics::Put;
+use decimal::Decimals;
 use desk::hex;
 use line::Framing;
-use machine::Used;
-use pipettor::Said;
+use machine::S3;
+use pipettor::{S1, Said};
 
 // A text.
 fn put(text: &[u8], out: &mut [u8], at: usize) -> usize
@@ -30,24 +31,13 @@ pub fn line(text: &[u8], out: &mut [u8], at: usize) -> usize
     put(b"\n", out, end)
 }
 
-fn whole(n: u32, out: &mut [u8], at: usize) -> usize
-    requires { at + 10 ≤ length out.old }
-    ensures { Prints 10 (digits_of n) at out.old result out.new }
-{
-    let Put::Bytes(size) = decimal::put_whole(n, out, at) else {
-        return at;
-    };
-    at + size
-}
-
-fn long(n: u64, out: &mut [u8], at: usize) -> usize
+// A whole number, of 64 bits or of 32.
+fn number(n: u64, out: &mut [u8], at: usize) -> usize
     requires { at + 20 ≤ length out.old }
-    ensures { Prints 20 (long_of n) at out.old result out.new }
+    ensures long { Prints 20 (long_of n) at out.old result out.new }
+    ensures short { n < 2 ^ 32 → Prints 10 (digits_of n) at out.old result out.new }
 {
-    let Put::Bytes(size) = decimal::put_long(n, out, at) else {
-        return at;
-    };
-    at + size
+    at + decimal::put(n, Decimals::Zero, out, at).unwrap_or(0)
 }
 
 // The end of a line of ticks: whether one asked to eject.
@@ -56,9 +46,10 @@ fn last(asked: bool, out: &mut [u8], at: usize) -> usize
     ensures { Prints 7 (last_of asked) at out.old result out.new }
 {
     if asked {
-        return line(b" eject", out, at);
+        line(b" eject", out, at)
+    } else {
+        put(b"\n", out, at)
     }
-    put(b"\n", out, at)
 }
 
 // "for ticks, the plunger, a space, the exact position"
@@ -66,24 +57,31 @@ pub fn place(plunger: u32, exact: u64, asked: bool, out: &mut [u8], at: usize) -
     requires { at + 38 ≤ length out.old }
     ensures { Prints 38 (place_of plunger exact asked) at out.old result out.new }
 {
-    let one = whole(plunger, out, at);
+    let one = number(u64::from(plunger), out, at);
     let two = put(b" ", out, one);
-    let three = long(exact, out, two);
+    let three = number(exact, out, two);
     last(asked, out, three)
 }
 
 // The ticks that a run used, and where it left the plunger; or S3.
-pub fn used(used: Used, plunger: u32, exact: u64, asked: bool, out: &mut [u8], at: usize) -> usize
+pub fn used(
+    used: Result<u32, S3>,
+    plunger: u32,
+    exact: u64,
+    asked: bool,
+    out: &mut [u8],
+    at: usize,
+) -> usize
     requires { at + 49 ≤ length out.old }
     ensures { Prints 49 (used_of used plunger exact asked) at out.old result out.new }
 {
     match used {
-        Used::Ticks(n) => {
-            let one = whole(n, out, at);
+        Ok(n) => {
+            let one = number(u64::from(n), out, at);
             let two = put(b" ", out, one);
             place(plunger, exact, asked, out, two)
         }
-        Used::S3 => line(b"S3", out, at),
+        Err(S3) => line(b"S3", out, at),
     }
 }
 
@@ -94,9 +92,9 @@ pub fn show(framing: Framing, said: Said, answer: &[u8], out: &mut [u8], at: usi
     ensures { Prints 65 (shown_of framing said answer.now) at out.old result out.new }
 {
     match said {
-        Said::Silent => line(b"-", out, at),
-        Said::Answer(n) => line(desk::printed(framing, n, answer), out, at),
-        Said::S1 => line(b"S1", out, at),
+        Ok(None) => line(b"-", out, at),
+        Ok(Some(n)) => line(desk::printed(framing, n, answer), out, at),
+        Err(S1) => line(b"S1", out, at),
     }
 }
 
@@ -105,12 +103,8 @@ fn pair(b: u8, first: bool, out: &mut [u8], at: usize) -> usize
     requires { at + 3 ≤ length out.old }
     ensures { Prints 3 (pair_of first b) at out.old result out.new }
 {
-    let digits = [hex::high(b), hex::low(b)];
-    if first {
-        return put(&digits, out, at);
-    }
-    let next = put(b" ", out, at);
-    put(&digits, out, next)
+    let start = if first { at } else { put(b" ", out, at) };
+    put(&[hex::high(b), hex::low(b)], out, start)
 }
 
 // Bytes in hex.
@@ -118,12 +112,9 @@ fn pairs(bytes: &[u8], out: &mut [u8], at: usize) -> usize
     requires { at + 3 * length bytes.now ≤ length out.old }
     ensures { Prints (3 * length bytes.now) (hex_of bytes.now) at out.old result out.new }
 {
-    let mut i = 0;
     let mut end = at;
-    while i < bytes.len() {
-        let b = bytes[i];
-        end = pair(b, i == 0, out, end);
-        i += 1;
+    for (i, b) in bytes.iter().enumerate() {
+        end = pair(*b, i == 0, out, end);
     }
     end
 }
@@ -133,10 +124,7 @@ fn bar(first: bool, out: &mut [u8], at: usize) -> usize
     requires { at + 3 ≤ length out.old }
     ensures { Prints 3 (bar_of first) at out.old result out.new }
 {
-    if first {
-        return at;
-    }
-    put(b" | ", out, at)
+    if first { at } else { put(b" | ", out, at) }
 }
 
 // An answer's bytes in hex.
@@ -156,14 +144,15 @@ pub fn raw(first: bool, said: Said, answer: &[u8], out: &mut [u8], at: usize) ->
     ensures { Prints 195 (added_of first said answer.now) at out.old result out.new }
 {
     match said {
-        Said::Silent => at,
-        Said::Answer(n) => {
-            if answer.len() < n {
-                return at;
+        Ok(None) => at,
+        Ok(Some(n)) => {
+            if n <= answer.len() {
+                in_hex(first, &answer[..n], out, at)
+            } else {
+                at
             }
-            in_hex(first, &answer[..n], out, at)
         }
-        Said::S1 => {
+        Err(S1) => {
             let next = bar(first, out, at);
             put(b"S1", out, next)
         }
@@ -176,7 +165,8 @@ pub fn close(first: bool, out: &mut [u8], at: usize) -> usize
     ensures { Prints 2 (close_of first) at out.old result out.new }
 {
     if first {
-        return line(b"-", out, at);
+        line(b"-", out, at)
+    } else {
+        put(b"\n", out, at)
     }
-    put(b"\n", out, at)
 }

@@ -5,7 +5,7 @@ ghost use Rattle.std.specs.Prelude.{◌≡◌, ◌≤◌};
 ghost use Rattle.settings.specs.Units.{flow_of, nanolitres_of};
 ghost use Rattle.settings.specs.Limits.{Kept};
 ghost use Rattle.motion.specs.Bounds.{BodyOk};
-ghost use Rattle.reports.specs.Reports.{Tellable, goal_in, busy_in, text_in, tip_in, setting_of, aspect_in, value_of, query_of, tell_of};
+ghost use Rattle.reports.specs.Reports.{Tellable, goal_in, busy_in, text_in, setting_of, aspect_in, value_of, query_of, tell_of};
 
 use buffer::course::{Course, State};
 use line::Report;
@@ -13,36 +13,15 @@ use motion::{Activity, Body};
 use settings::{Detection, Settings, units};
 use text::Question;
 
-// What a report says, or that there is none of this number.
-#[derive(Clone, Copy)]
-pub enum Told {
-    Says(Report),
-    No,
-}
-
-fn goal_while(activity: Activity, plunger: u32) -> u32
-    ensures { result ≡ goal_in (State.Running activity) plunger }
-{
-    match activity {
-        Activity::Initialising(t) => t.goal,
-        Activity::Moving(t) => t.goal,
-        Activity::Delaying(_) => plunger,
-        Activity::Approaching(t, _) => t.goal,
-        Activity::Searching(_) => plunger,
-        Activity::Ejecting => plunger,
-        Activity::Between => plunger,
-    }
-}
-
+#[tactic(auto, unfolding(crate::specs::Reports::goal_in))]
 fn goal_in(state: State, plunger: u32) -> u32
     ensures { result ≡ goal_in state plunger }
 {
     match state {
-        State::Empty => plunger,
-        State::Stored => plunger,
-        State::Running(activity) => goal_while(activity, plunger),
-        State::Stopped => plunger,
-        State::Done => plunger,
+        State::Running(
+            Activity::Initialising(t) | Activity::Moving(t) | Activity::Approaching(t, _),
+        ) => t.goal,
+        _ => plunger,
     }
 }
 
@@ -50,11 +29,8 @@ fn busy_in(state: State) -> u32
     ensures { result ≡ busy_in state }
 {
     match state {
-        State::Empty => 0,
-        State::Stored => 0,
         State::Running(_) => 1,
-        State::Stopped => 0,
-        State::Done => 0,
+        _ => 0,
     }
 }
 
@@ -62,122 +38,110 @@ fn text_in(state: State) -> u32
     ensures { result ≡ text_in state }
 {
     match state {
-        State::Empty => 0,
-        State::Stored => 1,
-        State::Running(_) => 1,
-        State::Stopped => 1,
-        State::Done => 0,
+        State::Empty | State::Done => 0,
+        State::Stored | State::Running(_) | State::Stopped => 1,
     }
-}
-
-// The tip as a digit.
-fn tip_in(tip: bool) -> u32
-    ensures { result ≡ tip_in tip }
-{
-    if tip {
-        return 1;
-    }
-    0
 }
 
 // A speed in nL a second.
-fn flow(tenths: u32) -> Told
+#[tactic(auto, using(crate::proofs::Telling::flow_fits))]
+fn flow(tenths: u32) -> Report
     requires { tenths ≤ 800000 }
-    ensures { result ≡ Told.Says (Report.Thousandths (flow_of tenths)) }
+    ensures { result ≡ Report.Thousandths (flow_of tenths) }
 {
-    let nl = units::flow(tenths) as u32;
-    Told::Says(Report::Thousandths(nl))
+    Report::Thousandths(units::flow(tenths) as u32)
 }
 
 // The plunger in nL.
-fn volume(plunger: u32, rate: u32) -> Told
+#[tactic(auto, using(crate::proofs::Telling::volume_fits))]
+fn volume(plunger: u32, rate: u32) -> Report
     requires { (plunger ≤ 44000) × (39650 ≤ rate) }
-    ensures { result ≡ Told.Says (Report.Thousandths (nanolitres_of plunger rate)) }
+    ensures { result ≡ Report.Thousandths (nanolitres_of plunger rate) }
 {
-    let nl = units::nanolitres(plunger, rate) as u32;
-    Told::Says(Report::Thousandths(nl))
+    Report::Thousandths(units::nanolitres(plunger, rate) as u32)
 }
 
 // Settings, and the lengths of travel.
-fn setting(n: u32, s: Settings) -> Told
+#[tactic(auto, unfolding(crate::specs::Reports::setting_of))]
+fn setting(n: u32, s: Settings) -> Option<Report>
     requires { Kept s }
     ensures { result ≡ setting_of n s }
 {
-    match n {
-        4 => Told::Says(Report::Whole(s.backlash)),
-        6 => Told::Says(Report::Tenths(s.start)),
-        7 => Told::Says(Report::Tenths(s.top)),
-        8 => Told::Says(Report::Tenths(s.cutoff)),
-        9 => Told::Says(Report::Whole(s.acceleration)),
-        10 => Told::Says(Report::Whole(s.deceleration)),
-        16 => Told::Says(Report::Whole(Settings::INCREMENTS_MOST)),
-        17 => Told::Says(Report::Whole(Settings::NANOLITRES_MOST / 1000)),
+    Some(match n {
+        4 => Report::Whole(s.backlash),
+        6 => Report::Tenths(s.start),
+        7 => Report::Tenths(s.top),
+        8 => Report::Tenths(s.cutoff),
+        9 => Report::Whole(s.acceleration),
+        10 => Report::Whole(s.deceleration),
+        16 => Report::Whole(Settings::INCREMENTS_MOST),
+        17 => Report::Whole(Settings::NANOLITRES_MOST / 1000),
         18 => flow(s.start),
         19 => flow(s.top),
         20 => flow(s.cutoff),
-        _ => Told::No,
-    }
+        _ => return None,
+    })
 }
 
 // p0 to p6.
-fn aspect(n: u32, d: Detection) -> Told
+#[tactic(auto, unfolding(crate::specs::Reports::aspect_in))]
+fn aspect(n: u32, d: Detection) -> Option<Report>
     ensures { result ≡ aspect_in n d }
 {
-    match n {
-        32 => Told::Says(Report::Whole(d.threshold)),
-        33 => Told::Says(Report::Whole(d.duration)),
-        34 => Told::Says(Report::Whole(d.place)),
-        35 => Told::Says(Report::Tenths(d.speed)),
-        36 => Told::Says(Report::Whole(d.most)),
-        37 => Told::Says(Report::Whole(d.mode)),
-        38 => Told::Says(Report::Whole(d.interval)),
-        _ => Told::No,
-    }
+    Some(match n {
+        32 => Report::Whole(d.threshold),
+        33 => Report::Whole(d.duration),
+        34 => Report::Whole(d.place),
+        35 => Report::Tenths(d.speed),
+        36 => Report::Whole(d.most),
+        37 => Report::Whole(d.mode),
+        38 => Report::Whole(d.interval),
+        _ => return None,
+    })
 }
 
 // ? with a number.
-fn value(n: u32, tip: bool, b: Body, state: State) -> Told
+#[tactic(auto, unfolding(crate::specs::Reports::value_of))]
+fn value(n: u32, tip: bool, b: Body, state: State) -> Option<Report>
     requires { BodyOk b }
     ensures { result ≡ value_of n tip b state }
 {
-    let settings = b.settings;
-    let detection = settings.detection;
-    let plunger = b.plunger;
-    match n {
-        0 => Told::Says(Report::Whole(goal_in(state, plunger))),
-        1 => Told::Says(Report::Whole(plunger)),
-        3 => volume(plunger, settings.rate),
-        4..=20 => setting(n, settings),
-        29 => Told::Says(Report::Whole(busy_in(state))),
-        31 => Told::Says(Report::Whole(tip_in(tip))),
-        32..=38 => aspect(n, detection),
-        67 => Told::Says(Report::Whole(text_in(state))),
-        _ => Told::No,
-    }
+    Some(match n {
+        0 => Report::Whole(goal_in(state, b.plunger)),
+        1 => Report::Whole(b.plunger),
+        3 => volume(b.plunger, b.settings.rate),
+        4..=20 => return setting(n, b.settings),
+        29 => Report::Whole(busy_in(state)),
+        31 => Report::Whole(if tip { 1 } else { 0 }),
+        32..=38 => return aspect(n, b.settings.detection),
+        67 => Report::Whole(text_in(state)),
+        _ => return None,
+    })
 }
 
 // Q with a number.
-fn query(n: u32, error: u8, column: u32) -> Told
+#[tactic(auto, unfolding(crate::specs::Reports::query_of))]
+fn query(n: u32, error: u8, column: u32) -> Option<Report>
     requires { error ≤ 15 }
     ensures { result ≡ query_of n error column }
 {
-    match n {
-        0 => Told::Says(Report::Nothing),
-        1 => Told::Says(Report::Character(64 + error)),
-        2 => Told::Says(Report::Whole(column)),
-        _ => Told::No,
-    }
+    Some(match n {
+        0 => Report::Nothing,
+        1 => Report::Character(64 + error),
+        2 => Report::Whole(column),
+        _ => return None,
+    })
 }
 
-// What a report says: of our address's character, the tip, the plunger and the settings, and the buffer.
-pub fn tell(q: Question, ours: u8, tip: bool, body: Body, course: Course) -> Told
+// What a report says, if there is one of this number: of our address's character, the tip, the plunger and the settings, and the buffer.
+#[tactic(auto, unfolding(crate::specs::Reports::tell_of))]
+pub fn tell(q: Question, ours: u8, tip: bool, body: Body, course: Course) -> Option<Report>
     requires { Tellable body course }
     ensures { result ≡ tell_of q ours tip body course }
 {
-    let state = course.state;
     match q {
         Question::Query(n) => query(n, course.error, course.misread),
-        Question::Value(n) => value(n, tip, body, state),
-        Question::Address => Told::Says(Report::Character(ours)),
+        Question::Value(n) => value(n, tip, body, course.state),
+        Question::Address => Some(Report::Character(ours)),
     }
 }

@@ -1,4 +1,3 @@
-pub mod Product
 pub mod Limits
 pub mod Rounding
 pub mod Motion

@@ -1,5 +1,5 @@
 -- A number that a range has lies between its ends, and the settings of a fresh or reset controller are within 01's limits.
-use mathlib.Core.Path.{◌≡◌, ap, ◌∙◌}
+use mathlib.Core.Path.{◌≡◌}
 use mathlib.Core.Bool.{Bool, true, false, and-eq-true_iff}
 use Prim.Native.Nat.{ℕ, ◌≤◌}
 use native.Mathlib.Omega.{arith}
@@ -13,7 +13,7 @@ use Rattle.settings.specs.declared.Pace.TheVariants.{Top, Start, Cutoff}
 use Rattle.settings.specs.declared.Detection.{Detection}
 use Rattle.settings.specs.declared.Aspect.{Aspect}
 use Rattle.settings.specs.declared.Aspect.TheVariants.{Threshold, Duration, Place, Speed, Most, Mode, Interval}
-use Rattle.settings.specs.Limits.{within, range_of, speeds_of, flows_of, rates, aspects_of, aspect_set, usual_detection, usual_with, usual_settings, Between, Detected, Kept}
+use Rattle.settings.specs.Limits.{within, range_of, speeds_of, flows_of, rates, aspects_of, aspect_set, usual_settings, Between, Detected, Kept}
 use Rattle.settings.specs.Units.{nearest, tenths_of, rate_of}
 
 -- what passes the test of a range lies between its ends
@@ -27,9 +27,6 @@ what_a_range_has_is_between range n h =
 pub what_is_between_a_range_has : (range : Range) (n : ℕ) → Between range n → within range n ≡ true
 unfolding within
 what_is_between_a_range_has range n b = simp (le-leb _ _ b.least, le-leb _ _ b.most)
-
-pub the_usual_settings : (d : Detection) (r : Settings) → d ≡ usual_detection → r ≡ usual_with d → r ≡ usual_settings
-the_usual_settings d r p e = e ∙ ap usual_with p
 
 -- the default settings are within the limits
 pub usual_settings_are_kept : Kept usual_settings
@@ -53,9 +50,6 @@ pub every_b_makes_a_rate_allowed : (b : ℕ) (down : Bool) → Between (range_of
 unfolding rate_of
 every_b_makes_a_rate_allowed b true h = omega arith
 every_b_makes_a_rate_allowed b false h = omega arith
-
-pub aspect_case : (k j : Aspect) (n : ℕ) (d r : Detection) → k ≡ j → r ≡ aspect_set j n d → r ≡ aspect_set k n d
-aspect_case k j n d r p e = rw p e
 
 -- what p allows, the settings may hold
 pub every_aspect_set_is_kept : (a : Aspect) (n : ℕ) (d : Detection) → Between (aspects_of a) n → Detected d → Detected (aspect_set a n d)

@@ -7,6 +7,7 @@ use lib.Dec.{eqb}
 use Rattle.std.specs.Prelude.{if◌then◌else◌}
 use Rattle.settings.specs.declared.Range.{Range}
 use Rattle.settings.specs.declared.Volume.{Volume}
+use Rattle.settings.specs.declared.Volume.TheVariants as V
 use Rattle.settings.specs.declared.Quantity.TheVariants.{Home, Increments, Nanolitres, Slope, Backlash, Compensation, Choice, Delay, Passes}
 use Rattle.settings.specs.declared.Pace.TheVariants.{Top, Start, Cutoff}
 use Rattle.settings.specs.declared.Aspect.TheVariants.{Threshold, Duration, Place, Speed, Most, Mode, Interval}
@@ -30,10 +31,10 @@ wrong_of [] = []
 wrong_of (row ∷ rows) = if right row then wrong_of rows else row ∷ wrong_of rows
 
 abbrev nL : ℕ → Volume
-nL n = record { amount = n; micro = true }
+nL n = V.Nanolitres n
 
 abbrev increments : ℕ → Volume
-increments n = record { amount = n; micro = false }
+increments n = V.Increments n
 
 abbrev pub table : List Row
 table =

@@ -1,6 +1,7 @@
 -- 01, "Ticks, volume and motion" and "Reports": the arithmetic of speeds, delays, volumes and distances.
 use Rattle.std.specs.Prelude.{ℕ, ◌+◌, ◌-◌, ◌*◌, ◌/◌, min, ◌≤◌, Bool, ltb, if◌then◌else◌}
 use Rattle.settings.specs.declared.Volume.{Volume}
+use Rattle.settings.specs.declared.Volume.TheVariants.{Increments, Nanolitres}
 
 -- a / b to the nearest whole number, half upwards
 unfoldable pub nearest : ℕ → ℕ → ℕ
@@ -24,7 +25,8 @@ rate_of b down = if down then 40000 - b else 40000 + b
 
 -- "A volume of n nL is n × C; one increment is 1,000,000"
 unfoldable pub millionths_of : Volume → ℕ → ℕ
-millionths_of v C = if v.micro then v.amount * C else v.amount * 1000000
+millionths_of (Increments n) C = n * 1000000
+millionths_of (Nanolitres n) C = n * C
 
 -- "The goal is (exact + 500,000) / 1,000,000 rounded down"
 unfoldable pub goal_of : ℕ → ℕ

@@ -47,11 +47,10 @@ pub struct Range {
     pub most: u32,
 }
 
-// A volume: increments, or nL where micro is true.
 #[derive(Clone, Copy)]
-pub struct Volume {
-    pub amount: u32,
-    pub micro: bool,
+pub enum Volume {
+    Increments(u32),
+    Nanolitres(u32),
 }
 
 // What a search for the liquid goes by: p0 to p6, the speed in tenths of an increment a second.
@@ -80,23 +79,22 @@ pub struct Settings {
 }
 
 impl Range {
+    // A row of the tables below is a line with it.
     fn between(least: u32, most: u32) -> Range
         ensures { result ≡ least to most }
     {
         Range { least, most }
     }
 
+    #[tactic(auto, unfolding(crate::specs::Limits::within))]
     pub fn has(self, n: u32) -> bool
         ensures { result ≡ within self n }
     {
-        if n < self.least {
-            return false;
-        }
-        n <= self.most
+        self.least <= n && n <= self.most
     }
 }
 
-impl Detection {
+impl Default for Detection {
     fn default() -> Detection
         ensures { result ≡ usual_detection }
     {
@@ -110,42 +108,42 @@ impl Detection {
             interval: Settings::INTERVAL_USUAL,
         }
     }
+}
 
+impl Detection {
     // p: one of them set anew.
     pub fn with(self, aspect: Aspect, n: u16) -> Detection
         ensures { result ≡ aspect_set aspect n self }
     {
+        let n = u32::from(n);
         let mut next = self;
-        let to = n as u32;
         match aspect {
-            Aspect::Threshold => {
-                next.threshold = to;
-                return next;
-            }
-            Aspect::Duration => {
-                next.duration = to;
-                return next;
-            }
-            Aspect::Place => {
-                next.place = to;
-                return next;
-            }
-            Aspect::Speed => {
-                next.speed = to * 10;
-                return next;
-            }
-            Aspect::Most => {
-                next.most = to;
-                return next;
-            }
-            Aspect::Mode => {
-                next.mode = to;
-                return next;
-            }
-            Aspect::Interval => {
-                next.interval = to;
-                return next;
-            }
+            Aspect::Threshold => next.threshold = n,
+            Aspect::Duration => next.duration = n,
+            Aspect::Place => next.place = n,
+            Aspect::Speed => next.speed = n * 10,
+            Aspect::Most => next.most = n,
+            Aspect::Mode => next.mode = n,
+            Aspect::Interval => next.interval = n,
+        }
+        next
+    }
+}
+
+impl Default for Settings {
+    #[tactic(auto, unfolding(crate::specs::Units::rate_of))]
+    fn default() -> Settings
+        ensures { result ≡ usual_settings }
+    {
+        Settings {
+            top: Settings::SPEED_USUAL,
+            start: Settings::START_SPEED_USUAL,
+            cutoff: Settings::SPEED_USUAL,
+            acceleration: Settings::SLOPE_USUAL,
+            deceleration: Settings::SLOPE_USUAL,
+            backlash: Settings::BACKLASH_USUAL,
+            rate: Settings::RATE_USUAL,
+            detection: Detection::default(),
         }
     }
 }
@@ -272,44 +270,23 @@ impl Settings {
 
     pub const INTERVAL_USUAL: u32 = 20;
 
-    pub fn default() -> Settings
-        ensures { result ≡ usual_settings }
-    {
-        Settings {
-            top: Settings::SPEED_USUAL,
-            start: Settings::START_SPEED_USUAL,
-            cutoff: Settings::SPEED_USUAL,
-            acceleration: Settings::SLOPE_USUAL,
-            deceleration: Settings::SLOPE_USUAL,
-            backlash: Settings::BACKLASH_USUAL,
-            rate: Settings::RATE_USUAL,
-            detection: Detection::default(),
-        }
-    }
-
     // What a number of the table may be.
     pub fn range(of: Quantity) -> Range
         ensures { result ≡ range_of of }
     {
         match of {
-            Quantity::Home => Range::between(Settings::HOME_LEAST, Settings::HOME_MOST),
-            Quantity::Increments => Range::between(
-                Settings::INCREMENTS_LEAST,
-                Settings::INCREMENTS_MOST,
-            ),
-            Quantity::Nanolitres => Range::between(
-                Settings::NANOLITRES_LEAST,
-                Settings::NANOLITRES_MOST,
-            ),
-            Quantity::Slope => Range::between(Settings::SLOPE_LEAST, Settings::SLOPE_MOST),
-            Quantity::Backlash => Range::between(Settings::BACKLASH_LEAST, Settings::BACKLASH_MOST),
+            Quantity::Home => Range::between(Self::HOME_LEAST, Self::HOME_MOST),
+            Quantity::Increments => Range::between(Self::INCREMENTS_LEAST, Self::INCREMENTS_MOST),
+            Quantity::Nanolitres => Range::between(Self::NANOLITRES_LEAST, Self::NANOLITRES_MOST),
+            Quantity::Slope => Range::between(Self::SLOPE_LEAST, Self::SLOPE_MOST),
+            Quantity::Backlash => Range::between(Self::BACKLASH_LEAST, Self::BACKLASH_MOST),
             Quantity::Compensation => Range::between(
-                Settings::COMPENSATION_LEAST,
-                Settings::COMPENSATION_MOST,
+                Self::COMPENSATION_LEAST,
+                Self::COMPENSATION_MOST,
             ),
-            Quantity::Choice => Range::between(Settings::CHOICE_LEAST, Settings::CHOICE_MOST),
-            Quantity::Delay => Range::between(Settings::DELAY_LEAST, Settings::DELAY_MOST),
-            Quantity::Passes => Range::between(Settings::PASSES_LEAST, Settings::PASSES_MOST),
+            Quantity::Choice => Range::between(Self::CHOICE_LEAST, Self::CHOICE_MOST),
+            Quantity::Delay => Range::between(Self::DELAY_LEAST, Self::DELAY_MOST),
+            Quantity::Passes => Range::between(Self::PASSES_LEAST, Self::PASSES_MOST),
         }
     }
 
@@ -318,15 +295,15 @@ impl Settings {
         ensures { result ≡ usual_of of }
     {
         match of {
-            Quantity::Home => Settings::HOME_USUAL,
-            Quantity::Increments => Settings::INCREMENTS_USUAL,
-            Quantity::Nanolitres => Settings::NANOLITRES_USUAL,
-            Quantity::Slope => Settings::SLOPE_USUAL,
-            Quantity::Backlash => Settings::BACKLASH_USUAL,
-            Quantity::Compensation => Settings::COMPENSATION_USUAL,
-            Quantity::Choice => Settings::CHOICE_USUAL,
-            Quantity::Delay => Settings::DELAY_USUAL,
-            Quantity::Passes => Settings::PASSES_USUAL,
+            Quantity::Home => Self::HOME_USUAL,
+            Quantity::Increments => Self::INCREMENTS_USUAL,
+            Quantity::Nanolitres => Self::NANOLITRES_USUAL,
+            Quantity::Slope => Self::SLOPE_USUAL,
+            Quantity::Backlash => Self::BACKLASH_USUAL,
+            Quantity::Compensation => Self::COMPENSATION_USUAL,
+            Quantity::Choice => Self::CHOICE_USUAL,
+            Quantity::Delay => Self::DELAY_USUAL,
+            Quantity::Passes => Self::PASSES_USUAL,
         }
     }
 
@@ -335,9 +312,8 @@ impl Settings {
         ensures { result ≡ speeds_of of }
     {
         match of {
-            Pace::Top => Range::between(Settings::SPEED_LEAST, Settings::SPEED_MOST),
-            Pace::Start => Range::between(Settings::START_SPEED_LEAST, Settings::START_SPEED_MOST),
-            Pace::Cutoff => Range::between(Settings::SPEED_LEAST, Settings::SPEED_MOST),
+            Pace::Top | Pace::Cutoff => Range::between(Self::SPEED_LEAST, Self::SPEED_MOST),
+            Pace::Start => Range::between(Self::START_SPEED_LEAST, Self::START_SPEED_MOST),
         }
     }
 
@@ -346,9 +322,8 @@ impl Settings {
         ensures { result ≡ flows_of of }
     {
         match of {
-            Pace::Top => Range::between(Settings::FLOW_LEAST, Settings::FLOW_MOST),
-            Pace::Start => Range::between(Settings::START_FLOW_LEAST, Settings::START_FLOW_MOST),
-            Pace::Cutoff => Range::between(Settings::FLOW_LEAST, Settings::FLOW_MOST),
+            Pace::Top | Pace::Cutoff => Range::between(Self::FLOW_LEAST, Self::FLOW_MOST),
+            Pace::Start => Range::between(Self::START_FLOW_LEAST, Self::START_FLOW_MOST),
         }
     }
 
@@ -357,9 +332,8 @@ impl Settings {
         ensures { result ≡ usual_speed of }
     {
         match of {
-            Pace::Top => Settings::SPEED_USUAL,
-            Pace::Start => Settings::START_SPEED_USUAL,
-            Pace::Cutoff => Settings::SPEED_USUAL,
+            Pace::Top | Pace::Cutoff => Self::SPEED_USUAL,
+            Pace::Start => Self::START_SPEED_USUAL,
         }
     }
 
@@ -368,19 +342,13 @@ impl Settings {
         ensures { result ≡ aspects_of of }
     {
         match of {
-            Aspect::Threshold => Range::between(
-                Settings::THRESHOLD_LEAST,
-                Settings::THRESHOLD_MOST,
-            ),
-            Aspect::Duration => Range::between(Settings::DURATION_LEAST, Settings::DURATION_MOST),
-            Aspect::Place => Range::between(Settings::PLACE_LEAST, Settings::PLACE_MOST),
-            Aspect::Speed => Range::between(
-                Settings::SEARCH_SPEED_LEAST,
-                Settings::SEARCH_SPEED_MOST,
-            ),
-            Aspect::Most => Range::between(Settings::SEARCH_LEAST, Settings::SEARCH_MOST),
-            Aspect::Mode => Range::between(Settings::MODE_LEAST, Settings::MODE_MOST),
-            Aspect::Interval => Range::between(Settings::INTERVAL_LEAST, Settings::INTERVAL_MOST),
+            Aspect::Threshold => Range::between(Self::THRESHOLD_LEAST, Self::THRESHOLD_MOST),
+            Aspect::Duration => Range::between(Self::DURATION_LEAST, Self::DURATION_MOST),
+            Aspect::Place => Range::between(Self::PLACE_LEAST, Self::PLACE_MOST),
+            Aspect::Speed => Range::between(Self::SEARCH_SPEED_LEAST, Self::SEARCH_SPEED_MOST),
+            Aspect::Most => Range::between(Self::SEARCH_LEAST, Self::SEARCH_MOST),
+            Aspect::Mode => Range::between(Self::MODE_LEAST, Self::MODE_MOST),
+            Aspect::Interval => Range::between(Self::INTERVAL_LEAST, Self::INTERVAL_MOST),
         }
     }
 
@@ -389,13 +357,13 @@ impl Settings {
         ensures { result ≡ usual_aspect of }
     {
         match of {
-            Aspect::Threshold => Settings::THRESHOLD_USUAL,
-            Aspect::Duration => Settings::DURATION_USUAL,
-            Aspect::Place => Settings::PLACE_USUAL,
-            Aspect::Speed => Settings::SEARCH_SPEED_USUAL,
-            Aspect::Most => Settings::SEARCH_USUAL,
-            Aspect::Mode => Settings::MODE_USUAL,
-            Aspect::Interval => Settings::INTERVAL_USUAL,
+            Aspect::Threshold => Self::THRESHOLD_USUAL,
+            Aspect::Duration => Self::DURATION_USUAL,
+            Aspect::Place => Self::PLACE_USUAL,
+            Aspect::Speed => Self::SEARCH_SPEED_USUAL,
+            Aspect::Most => Self::SEARCH_USUAL,
+            Aspect::Mode => Self::MODE_USUAL,
+            Aspect::Interval => Self::INTERVAL_USUAL,
         }
     }
 }

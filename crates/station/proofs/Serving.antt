@@ -6,6 +6,9 @@ use Prim.Native.Nat.{ℕ, zero, suc, ◌+◌, ◌-◌, ◌*◌, ◌≤◌}
 use native.Mathlib.Omega.{arith}
 use lib.Dec.{eqb}
 use lib.ListN.{length, take, drop, length-drop, length-replicate}
+use Rattle.std.specs.Prelude.{Err, None, Ok, Option, Result, Some}
+use Rattle.pipettor.specs.declared.address.S2.{S2}
+use Rattle.pipettor.specs.Said.{Said, s1}
 use Rattle.basics.specs.Bytes.{chars}
 use Rattle.basics.proofs.Lists.{tail_all, empty}
 use Rattle.desk.specs.declared.Desk.{Desk}
@@ -20,14 +23,9 @@ use Rattle.desk.proofs.Forms.{a_frame_is_asked_for, a_number_is_asked_for, raw_b
 use Rattle.line.specs.declared.Framing.{Framing}
 use Rattle.line.specs.declared.Framing.TheVariants as F
 use Rattle.line.specs.Dt.{slash, cr}
-use Rattle.machine.specs.declared.Used.{Used}
 use Rattle.pipettor.specs.declared.address.Address.{Address}
 use Rattle.pipettor.specs.declared.address.Address.TheVariants.{One}
-use Rattle.pipettor.specs.declared.address.Given.{Given}
-use Rattle.pipettor.specs.declared.address.Given.TheVariants.{Is, S2}
 use Rattle.pipettor.specs.declared.Controller.{Controller}
-use Rattle.pipettor.specs.declared.Said.{Said}
-use Rattle.pipettor.specs.declared.Said.TheVariants.{Silent, Answer, S1}
 use Rattle.pipettor.specs.declared.Reply.{Reply}
 use Rattle.pipettor.specs.declared.Listened.{Listened}
 use Rattle.pipettor.specs.declared.Ticked.{Ticked}
@@ -39,7 +37,7 @@ use Rattle.pipettor.specs.Controller.{made_of, advanced_of, run_of, stopped_of, 
 use Rattle.pipettor.specs.Listening.{listened_of}
 use Rattle.pipettor.specs.Valid.{Valid}
 use Rattle.pipettor.specs.Returns.{Returns, Keeps}
-use lib.IntN.{ℤ, pos, neg_ℤ}
+use lib.IntN.{ℤ, pos, ◌-ℤ◌}
 use mir.Syntax.{w32}
 use mir.Val.{SFits, to_z, of_z}
 use mir.Facts.{to_z-of_z}
@@ -92,22 +90,29 @@ module _ (s : Station) (m : Manned s) where
   pub buffer_short : length (take s.lend (blank 64)) ≤ 64
   buffer_short = rw lent (omega (arith, m.lend, length-replicate {A = ℕ} s.lend 0))
 
+-- a line that says no more than this
+pub says : (s : Station) (text : List ℕ) (at end : ℕ) (out left : List ℕ) → Manned s → Prints (length text + 1) (ended text) at out end left → Replies (length text + 1) (served s (ended text)) at out (record { station = s; end = end }) left
+says s text at end out left m p = record { is = refl; again = m; prints = p }
+
 -- a frame
-module _ (s k : Station) (said : Said) (buf left out after-it : List ℕ) (at end : ℕ) where
-  pub finished : (last : ℕ) (f : Framing) → f ≡ framing_is s.controller → Tells last s buf (record { station = k; said = said }) left → Prints 65 (shown_of f said left) at out end after-it → Replies 65 (shown_by (told_of last buf s) s) at out (record { station = k; end = end }) after-it
-  finished last f e t p = record { is = t.is; again = t.again; prints = rw (← e, ← t.said, ← t.buffer) p }
-
-  pub heard : (b : ℕ) (first : Bool) → Tells b s buf (record { station = k; said = said }) left → Prints 195 (added_of first said left) at out end after-it → Replies 195 (added_by first (told_of b buf s) s) at out (record { station = k; end = end }) after-it
-  heard b first t p = record { is = t.is; again = t.again; prints = rw (← t.said, ← t.buffer) p }
-
-module _ (s : Station) (m : Manned s) (at : ℕ) (out : List ℕ) (r : Replied) (left : List ℕ) where
-  pub ends_frame : (last : ℕ) → Replies 65 (shown_by (told_of last (take s.lend (blank 64)) s) s) at out r left → Replies 65 (ended_of last s) at out r left
+module _ (s k : Station) (m : Manned s) (said : Said) (left out after-it : List ℕ) (at end : ℕ) where
+  pub finished :
+      (last : ℕ) (f : Framing) → f ≡ framing_is s.controller → Tells last s (take s.lend (blank 64)) (record { station = k; said = said }) left → Prints 65 (shown_of f said left) at out end after-it →
+      Replies 65 (ended_of last s) at out (record { station = k; end = end }) after-it
   unfolding ended_of heard_of
-  ends_frame last q = rw (lent s m) at q
+  finished last f e t p =
+      let q : Replies 65 (shown_by (told_of last (take s.lend (blank 64)) s) s) at out (record { station = k; end = end }) after-it
+      = record { is = t.is; again = t.again; prints = rw (← e, ← t.said, ← t.buffer) p } in
+      rw (lent s m) at q
 
-  pub says_to : (b : ℕ) (first : Bool) → Replies 195 (added_by first (told_of b (take s.lend (blank 64)) s) s) at out r left → Replies 195 (said_to b first s) at out r left
+  pub heard :
+      (b : ℕ) (first : Bool) → Tells b s (take s.lend (blank 64)) (record { station = k; said = said }) left → Prints 195 (added_of first said left) at out end after-it →
+      Replies 195 (said_to b first s) at out (record { station = k; end = end }) after-it
   unfolding said_to heard_of
-  says_to b first q = rw (lent s m) at q
+  heard b first t p =
+      let q : Replies 195 (added_by first (told_of b (take s.lend (blank 64)) s) s) at out (record { station = k; end = end }) after-it
+      = record { is = t.is; again = t.again; prints = rw (← t.said, ← t.buffer) p } in
+      rw (lent s m) at q
 
 module _ (s k : Station) (m : Manned s) (text : List ℕ) (l : Listened) (h : Keeps l (listened_of s.controller text) s.controller l.controller) (e : k ≡ on l.controller s) where
   pub still_manned : Manned k
@@ -126,17 +131,14 @@ module _ (s k : Station) (m : Manned s) (said : Said) (begin : ℕ) (rest buf : 
     sends : (w : Served) → sent_by said rest last k ≡ w → Replies 65 w at out r left → Replies 65 (sent_of begin rest last s) at out r left
     sends w e q = rw (sym e ∙ first) at q
 
-    pub sends_on : said ≡ Silent → Replies 65 (gone_on rest last k) at out r left → Replies 65 (sent_of begin rest last s) at out r left
+    pub sends_on : (n : Option ℕ) → said ≡ Ok n → Replies 65 (gone_on rest last k) at out r left → Replies 65 (sent_of begin rest last s) at out r left
     unfolding sent_by
-    sends_on e q = sends (gone_on rest last k) (rw e) q
+    sends_on None e q = sends (gone_on rest last k) (rw e) q
+    sends_on (Some n) e q = sends (gone_on rest last k) (rw e) q
 
-    pub sends_on_too : (n : ℕ) → said ≡ Answer n → Replies 65 (gone_on rest last k) at out r left → Replies 65 (sent_of begin rest last s) at out r left
+    pub refused : said ≡ Err s1 → Replies 3 (served k (ended (83 ∷ 49 ∷ []))) at out r left → Replies 65 (sent_of begin rest last s) at out r left
     unfolding sent_by
-    sends_on_too n e q = sends (gone_on rest last k) (rw e) q
-
-  pub refused : (end : ℕ) → said ≡ S1 → Prints 3 (ended (83 ∷ 49 ∷ [])) at out end left → Replies 65 (sent_of begin rest last s) at out (record { station = k; end = end }) left
-  unfolding sent_by
-  refused end e p = sends (record { station = k; end = end }) (served k (ended (chars "S1"))) (rw e) (record { is = refl; again = t.again; prints = shorter 3 65 (ended (chars "S1")) at end out left (omega arith) p })
+    refused e q = sends (served k (ended (chars "S1"))) (rw e) (weaker 3 65 (served k (ended (chars "S1"))) at out r left (omega arith) q)
 
 -- by the framing of the controller
 module _ (s : Station) (text : List ℕ) (at : ℕ) (out : List ℕ) (r : Replied) (left : List ℕ) where
@@ -148,9 +150,9 @@ module _ (s : Station) (text : List ℕ) (at : ℕ) (out : List ℕ) (r : Replie
     pub in_OEM : f ≡ F.Oem → Replies 65 (framed_by F.Oem text s) at out r left → Replies 65 (framed_of text s) at out r left
     in_OEM p q = rw (← e, p) q
 
-  pub no_address : length text ≡ 0 → Replies 2 (did_of Wrong [] s) at out r left → Replies 65 (framed_by F.Oem text s) at out r left
-  unfolding framed_by did_of
-  no_address h q = rw (empty text h) (weaker 2 65 (did_of Wrong [] s) at out r left (omega arith) q)
+  pub no_address : length text ≡ 0 → Replies 2 (served s (ended (63 ∷ []))) at out r left → Replies 65 (framed_by F.Oem text s) at out r left
+  unfolding framed_by
+  no_address h q = rw (empty text h) (weaker 2 65 (served s (ended (63 ∷ []))) at out r left (omega arith) q)
 
 -- ticks, a run, the stop
 module _ (s k : Station) (m : Manned s) (at end : ℕ) (out left : List ℕ) where
@@ -158,9 +160,14 @@ module _ (s k : Station) (m : Manned s) (at end : ℕ) (out left : List ℕ) whe
   unfolding placed_of
   places c asked v e p = record { is = e; again = moved s k c e m v; prints = p }
 
-  pub uses : (u : Used) (c : Controller) (asked : Bool) → Valid c → k ≡ on c s → Prints 49 (used_of u c.device.core.body.plunger c.device.core.body.exact asked) at out end left → Replies 49 (used_up u c asked s) at out (record { station = k; end = end }) left
+  pub runs :
+      (n : ℕ) (asked : Bool) (t : Ran) → Returns t (run_of n s.sense s.controller) t.ticked.controller → asked ≡ shows_ask s.desk t.ticked.news.eject → k ≡ on t.ticked.controller s →
+      Prints 49 (used_of t.used t.ticked.controller.device.core.body.plunger t.ticked.controller.device.core.body.exact asked) at out end left → Replies 49 (ran_of n s) at out (record { station = k; end = end }) left
   unfolding used_up
-  uses u c asked v e p = record { is = e; again = moved s k c e m v; prints = p }
+  runs n asked t h a e p =
+      let q : Replies 49 (used_up t.used t.ticked.controller asked s) at out (record { station = k; end = end }) left
+      = record { is = e; again = moved s k t.ticked.controller e m h.again; prints = p } in
+      rw (a, h.is) at q
 
 pub stopped_valid : (s : Station) (c : Controller) → Manned s → Keeps c (stopped_of s.controller).next s.controller c → Valid c
 stopped_valid s c m h = h.again m.valid
@@ -169,40 +176,44 @@ module _ (s : Station) (at : ℕ) (out : List ℕ) (r : Replied) (left : List �
   pub waits : (n : ℕ) (asked : Bool) (t : Ticked) → Returns t (advanced_of n s.sense s.controller) t.controller → asked ≡ shows_ask s.desk t.news.eject → Replies 38 (placed_of t.controller asked s) at out r left → Replies 38 (waited_of n s) at out r left
   waits n asked t h e q = rw (e, h.is) at q
 
-  pub runs : (n : ℕ) (asked : Bool) (t : Ran) → Returns t (run_of n s.sense s.controller) t.ticked.controller → asked ≡ shows_ask s.desk t.ticked.news.eject → Replies 49 (used_up t.used t.ticked.controller asked s) at out r left → Replies 49 (ran_of n s) at out r left
-  runs n asked t h e q = rw (e, h.is) at q
-
   pub halts : (c : Controller) → Keeps c (stopped_of s.controller).next s.controller c → Replies 38 (placed_of c false s) at out r left → Replies 38 (halted_of s) at out r left
   halts c h q = rw h.is at q
 
--- buffers and addresses
-module _ (s : Station) (m : Manned s) (at end : ℕ) (out left : List ℕ) where
-  pub renews : (f : Framing) (a : Address) (c : Controller) (k : Station) → Returns c (made_of f a).next c → k ≡ on c s → Prints 3 (ended (111 ∷ 107 ∷ [])) at out end left → Replies 3 (made_by f (Is a) s) at out (record { station = k; end = end }) left
-  unfolding made_by
-  renews f a c k r q p = record { is = q ∙ ap (λ (x : Controller). on x s) r.is; again = moved s k c q m r.again; prints = p }
+-- buffers, and what the host senses
+module _ (s : Station) (m : Manned s) where
+  pub lend_manned : (n : ℕ) → n ≤ 64 → Manned (station s.desk n s.sense s.controller)
+  lend_manned n h = record { valid = m.valid; lend = h }
 
-  pub makes_none : (f : Framing) (n : ℕ) (g : Given) → g ≡ address_of n → g ≡ S2 → Prints 3 (ended (83 ∷ 50 ∷ [])) at out end left → Replies 3 (made_by f (address_of n) s) at out (record { station = s; end = end }) left
-  unfolding made_by
-  makes_none f n g h e p = rw (← h, e) (record { is = refl; again = m; prints = p })
+  pub sense_manned : (x : Sense) → Manned (station s.desk s.lend x s.controller)
+  sense_manned x = record { valid = m.valid; lend = m.lend }
 
-  pub senses : (x : Sense) → Prints 3 (ended (111 ∷ 107 ∷ [])) at out end left → Replies 3 (sensed_of x s) at out (record { station = station s.desk s.lend x s.controller; end = end }) left
-  unfolding sensed_of
-  senses x p = record { is = refl; again = record { valid = m.valid; lend = m.lend }; prints = p }
-
-  pub asks_back : Prints 2 (ended (63 ∷ [])) at out end left → Replies 2 (did_of Wrong [] s) at out (record { station = s; end = end }) left
-  unfolding did_of
-  asks_back p = record { is = refl; again = m; prints = p }
-
--- another sense
-pub sensed_so : (x y : Sense) (s : Station) (at : ℕ) (out : List ℕ) (r : Replied) (left : List ℕ) → x ≡ y → Replies 3 (sensed_of x s) at out r left → Replies 3 (sensed_of y s) at out r left
+pub sensed_so :
+    (x y : Sense) (s : Station) (at : ℕ) (out : List ℕ) (r : Replied) (left : List ℕ) → x ≡ y → Replies 3 (served (station s.desk s.lend x s.controller) (ended (111 ∷ 107 ∷ []))) at out r left →
+    Replies 3 (sensed_of y s) at out r left
+unfolding sensed_of
 sensed_so x y s at out r left e q = rw e at q
 
 -- a reading is handed on as bits, which are that reading
-pub pressed_so : (x : Sense) (z : ℤ) (s : Station) (at : ℕ) (out : List ℕ) (r : Replied) (left : List ℕ) → SFits w32 z → x ≡ sensing s.sense.tip (to_z w32 (of_z w32 z)) → Replies 3 (sensed_of x s) at out r left → Replies 3 (pressed_of z s) at out r left
+pub pressed_so :
+    (x : Sense) (z : ℤ) (s : Station) (at : ℕ) (out : List ℕ) (r : Replied) (left : List ℕ) → SFits w32 z → x ≡ sensing s.sense.tip (to_z w32 (of_z w32 z)) →
+    Replies 3 (served (station s.desk s.lend x s.controller) (ended (111 ∷ 107 ∷ []))) at out r left → Replies 3 (pressed_of z s) at out r left
+unfolding sensed_of
 pressed_so x z s at out r left fits e q = subst (λ (y : ℤ). Replies 3 (pressed_of y s) at out r left) (to_z-of_z fits) (rw e at q)
 
-pub makes : (f : Framing) (n : ℕ) (g : Given) (a : Address) (s : Station) (at : ℕ) (out : List ℕ) (r : Replied) (left : List ℕ) → g ≡ address_of n → g ≡ Is a → Replies 3 (made_by f (Is a) s) at out r left → Replies 3 (made_by f (address_of n) s) at out r left
-makes f n g a s at out r left h e q = rw (← h, e) q
+-- a fresh controller of an address, or S2
+module _ (f : Framing) (n : ℕ) (s : Station) (m : Manned s) (g : Result Address S2) (h : g ≡ address_of n) (at : ℕ) (out : List ℕ) (r : Replied) (left : List ℕ) where
+  pub makes_none : (x : S2) → g ≡ Err x → Replies 3 (served s (ended (83 ∷ 50 ∷ []))) at out r left → Replies 3 (made_by f (address_of n) s) at out r left
+  unfolding made_by
+  makes_none x e q = rw (← h, e) q
+
+  pub makes :
+      (a : Address) (c : Controller) (k : Station) → g ≡ Ok a → Returns c (made_of f a).next c → k ≡ on c s → Replies 3 (served k (ended (111 ∷ 107 ∷ []))) at out r left →
+      Replies 3 (made_by f (address_of n) s) at out r left
+  unfolding made_by
+  makes a c k e b o q = rw (← h, e) (rw (o ∙ ap (λ (x : Controller). on x s) b.is) at q)
+
+pub fresh_manned : (f : Framing) (a : Address) (s k : Station) (c : Controller) → Manned s → Returns c (made_of f a).next c → k ≡ on c s → Manned k
+fresh_manned f a s k c m r e = moved s k c e m r.again
 
 -- by what is asked
 module _ (q : Quantity) (n : ℕ) (s : Station) (at : ℕ) (out : List ℕ) (r : Replied) (left : List ℕ) where
@@ -222,18 +233,13 @@ module _ (q : Quantity) (n : ℕ) (s : Station) (at : ℕ) (out : List ℕ) (r :
   unfolding numbered_of
   numbered_tip e p = rw e (weaker 3 65 (tipped_of (eqb n 1) s) at out r left (omega arith) p)
 
-  module _ (x : ℤ) (p : Replies 3 (pressed_of (to_z w32 (of_z w32 x)) s) at out r left) where
-    pub numbered_press : q ≡ Press → n ≤ most_of q → x ≡ pos n → Replies 65 (numbered_of q n s) at out r left
-    unfolding numbered_of
-    numbered_press e m h =
-        let back : to_z w32 (of_z w32 x) ≡ pos n = ap (λ (y : ℤ). to_z w32 (of_z w32 y)) h ∙ small_back n (rw e at m) in
-        rw (e, ← back) (weaker 3 65 (pressed_of (to_z w32 (of_z w32 x)) s) at out r left (omega arith) p)
+  pub numbered_press : q ≡ Press → n ≤ most_of q → Replies 3 (pressed_of (to_z w32 n) s) at out r left → Replies 65 (numbered_of q n s) at out r left
+  unfolding numbered_of
+  numbered_press e m p = rw (e, ← small_back n (rw e at m)) (weaker 3 65 (pressed_of (to_z w32 n) s) at out r left (omega arith) p)
 
-    pub numbered_minus : q ≡ Minus → n ≤ most_of q → x ≡ neg_ℤ (pos n) → Replies 65 (numbered_of q n s) at out r left
-    unfolding numbered_of
-    numbered_minus e m h =
-        let back : to_z w32 (of_z w32 x) ≡ neg_ℤ (pos n) = ap (λ (y : ℤ). to_z w32 (of_z w32 y)) h ∙ minus_back n (rw e at m) in
-        rw (e, ← back) (weaker 3 65 (pressed_of (to_z w32 (of_z w32 x)) s) at out r left (omega arith) p)
+  pub numbered_minus : q ≡ Minus → n ≤ most_of q → Replies 3 (pressed_of (to_z w32 (of_z w32 (pos 0 -ℤ to_z w32 n))) s) at out r left → Replies 65 (numbered_of q n s) at out r left
+  unfolding numbered_of
+  numbered_minus e m p = rw (e, ← minus_back n (rw e at m)) (weaker 3 65 (pressed_of (to_z w32 (of_z w32 (pos 0 -ℤ to_z w32 n))) s) at out r left (omega arith) p)
 
   pub press_within : q ≡ Press → n ≤ most_of q → n ≤ 40000
   press_within e h = rw e at h
@@ -306,6 +312,6 @@ module _ (line : List ℕ) (s : Station) (a : Asked) (e : a ≡ asked_of s.desk 
         answers (80 * (length (take (length line - 2) (drop 2 line)) + 3)) (raw_of (bytes_in (take (length line - 2) (drop 2 line))) s) (rw (q, tail_all 2 line))
         (rw (tail_all 2 line) (omega (arith, bytes_start q, length-drop 2 line))) p
 
-    pub answers_other : a ≡ Wrong → Replies 2 (did_of Wrong [] s) at out r left → Replies (80 * (length line + 1)) (served_of line s) at out r left
+    pub answers_other : a ≡ Wrong → Replies 2 (served s (ended (63 ∷ []))) at out r left → Replies (80 * (length line + 1)) (served_of line s) at out r left
     unfolding did_of
-    answers_other q p = answers 2 (did_of Wrong [] s) (rw q) (omega arith) p
+    answers_other q p = answers 2 (served s (ended (63 ∷ []))) (rw q) (omega arith) p

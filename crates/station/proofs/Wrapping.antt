@@ -5,7 +5,7 @@ use Prim.Native.Nat.{ℕ, suc, ◌+◌, ◌-◌, ◌≤◌, ◌<◌}
 use native.Mathlib.Omega.{arith}
 use lib.ListN.{length, take, drop, get_or, length-append, length-replicate}
 use lib.Seq.{take_at, take-nil}
-use Rattle.basics.specs.declared.Put.{Put}
+use Rattle.std.specs.Prelude.{Option}
 use Rattle.basics.specs.Lay.{Laid, over}
 use Rattle.basics.proofs.Laying.{laid, all_laid}
 use Rattle.basics.proofs.Lists.{tail_all, full, front_counted}
@@ -41,8 +41,8 @@ module _ (text wire : List ℕ) (w : Wrappable text wire) where
   whole = ap wrapped split
 
   pub laid_out :
-      (one two three : List ℕ) (r s t : Put) → Laid (stx ∷ address ∷ 48 ∷ []) 0 wire r one → Laid (take (length text - 1) rest) 3 one s two → Laid (etx ∷ []) (length text + 2) two t three →
-      Wraps text wire (length text + 2 + 1) three
+      (one two three : List ℕ) (r s t : Option ℕ) → Laid (stx ∷ address ∷ 48 ∷ []) 0 wire r one → Laid (take (length text - 1) rest) 3 one s two → Laid (etx ∷ []) (length text + 2) two t three →
+      Wraps text wire (length text + 3) three
   laid_out one two three r s t h d e =
       let head = stx ∷ address ∷ 48 ∷ [] in
       let long = count in

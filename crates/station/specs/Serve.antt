@@ -1,5 +1,9 @@
 -- What a line does to a station and what it prints: 01, "The bench program", and the training rig.
-use Rattle.std.specs.Prelude.{ℕ, ◌+◌, ◌≤◌, ◌<◌, ◌≡◌, Bool, false, List, [], ◌∷◌, ◌++◌, eqb, length, drop, replicate, ℤ, pos, neg_ℤ}
+use Rattle.std.specs.Prelude.{ℕ, ◌+◌, ◌≤◌, ◌<◌, ◌≡◌, Bool, false, List, [], ◌∷◌, ◌++◌, eqb, length, drop, replicate, ℤ, pos, neg_ℤ, Err, None, Ok, Result, Some}
+use Rattle.pipettor.specs.declared.address.S2.{S2}
+use Rattle.pipettor.specs.declared.address.Address.{Address}
+use Rattle.pipettor.specs.Said.{Said}
+use Rattle.machine.specs.declared.S3.{S3}
 use Rattle.basics.specs.Bytes.{chars}
 use Rattle.basics.specs.Lay.{over}
 use Rattle.line.specs.declared.Framing.{Framing}
@@ -17,13 +21,8 @@ use Rattle.desk.specs.declared.Asked.{Asked}
 use Rattle.desk.specs.declared.Asked.TheVariants.{Send, Number, Stop, Raw, Wrong}
 use Rattle.desk.specs.Desk.{asked_of}
 use Rattle.desk.specs.Hex.{bytes_in}
-use Rattle.machine.specs.declared.Used.{Used}
 use Rattle.pipettor.specs.declared.address.Address.TheVariants.{One}
-use Rattle.pipettor.specs.declared.address.Given.{Given}
-use Rattle.pipettor.specs.declared.address.Given.TheVariants.{Is, S2}
 use Rattle.pipettor.specs.declared.Controller.{Controller}
-use Rattle.pipettor.specs.declared.Said.{Said}
-use Rattle.pipettor.specs.declared.Said.TheVariants.{Silent, Answer, S1}
 use Rattle.pipettor.specs.Address.{address_of}
 use Rattle.pipettor.specs.Byte.{After, byte_of}
 use Rattle.pipettor.specs.Controller.{made_of, advanced_of, run_of, stopped_of, framing_is}
@@ -79,9 +78,9 @@ gone_on rest last s = ended_of last (on (listened_of s.controller rest).controll
 
 -- the first byte tells that a buffer is too short
 unfoldable pub sent_by : Said → List ℕ → ℕ → Station → Served
-sent_by Silent rest last s = gone_on rest last s
-sent_by (Answer n) rest last s = gone_on rest last s
-sent_by S1 rest last s = served s (ended (chars "S1"))
+sent_by (Ok None) rest last s = gone_on rest last s
+sent_by (Ok (Some n)) rest last s = gone_on rest last s
+sent_by (Err _) rest last s = served s (ended (chars "S1"))
 
 unfoldable pub sent_of : ℕ → List ℕ → ℕ → Station → Served
 sent_of first rest last s = let a = heard_of first s in sent_by a.reply.said rest last (after a s)
@@ -123,7 +122,7 @@ abbrev pub waited_of : ℕ → Station → Served
 waited_of n s = let t = advanced_of n s.sense s.controller in placed_of t.controller (shows_ask s.desk t.news.eject) s
 
 -- "a run of up to n ticks"
-unfoldable pub used_up : Used → Controller → Bool → Station → Served
+unfoldable pub used_up : Result ℕ S3 → Controller → Bool → Station → Served
 used_up used k asked s = let b = k.device.core.body in served (on k s) (used_of used b.plunger b.exact asked)
 
 abbrev pub ran_of : ℕ → Station → Served
@@ -148,9 +147,9 @@ abbrev pub pressed_of : ℤ → Station → Served
 pressed_of reading s = sensed_of (sensing s.sense.tip reading) s
 
 -- "a fresh controller of that address ..; n not in 1 to 9 leaves the old one"; "`oem n`: as `new n` with OEM framing"
-unfoldable pub made_by : Framing → Given → Station → Served
-made_by f (Is a) s = served (on (made_of f a).next s) (ended (chars "ok"))
-made_by f S2 s = served s (ended (chars "S2"))
+unfoldable pub made_by : Framing → Result Address S2 → Station → Served
+made_by f (Ok a) s = served (on (made_of f a).next s) (ended (chars "ok"))
+made_by f (Err _) s = served s (ended (chars "S2"))
 
 unfoldable pub numbered_of : Quantity → ℕ → Station → Served
 numbered_of Ticks n s = waited_of n s

@@ -1,19 +1,20 @@
 // A host's part: what a line of the bench program or of the training rig does to a controller, and what it prints.
+// The output is memory that the caller lends, and `Replies` names the place and the end, so that both stay arguments.
 #![tactic(auto)]
 
-ghost use Rattle.std.specs.Prelude.{◌≡◌, [], ◌+◌, ◌*◌, ◌≤◌, length, eqb, pos, neg_ℤ};
+ghost use Rattle.std.specs.Prelude.{◌≡◌, ◌+◌, ◌*◌, ◌≤◌, length, eqb, pos, neg_ℤ};
 ghost use Rattle.desk.specs.Desk.{most_of};
 ghost use Rattle.desk.specs.Hex.{bytes_in};
 ghost use Rattle.pipettor.specs.Valid.{Valid};
 ghost use Rattle.pipettor.specs.Address.{address_of};
-ghost use Rattle.station.specs.Serve.{on, told_of, shown_by, added_by, gone_on, ended_of, sent_of, Wrappable, Wraps, framed_by, framed_of, placed_of, shows_ask, waited_of, used_up, ran_of, halted_of, lent_of, sensed_of, tipped_of, pressed_of, made_by, numbered_of, said_to, raw_of, did_of, served_of, Manned, Starts, Tells, Replies};
+ghost use Rattle.printing.specs.Print.{ended};
+ghost use Rattle.station.specs.Serve.{on, served, gone_on, ended_of, sent_of, Wrappable, Wraps, framed_by, framed_of, placed_of, shows_ask, waited_of, ran_of, halted_of, lent_of, tipped_of, pressed_of, made_by, numbered_of, said_to, raw_of, served_of, Manned, Starts, Tells, Replies};
 
 use desk::{Asked, Desk, Quantity, hex};
 use line::Framing;
-use machine::Used;
 use motion::Sense;
-use pipettor::address::{Address, Given};
-use pipettor::{Controller, Said};
+use pipettor::address::Address;
+use pipettor::{Controller, S1, Said};
 
 // Whose lines are taken, how many bytes the answer buffers have, what the host senses, and the controller.
 #[derive(Clone, Copy)]
@@ -49,58 +50,47 @@ fn shows(desk: Desk, asked: bool) -> bool
 }
 
 // An OEM frame but for its sum: 02h, the text's first character as address, 30h, the rest as data, 03h. How many bytes it has.
+#[tactic(auto, using(crate::proofs::Wrapping::first_there, crate::proofs::Wrapping::one_behind))]
 fn wrap(text: &[u8], wire: &mut [u8]) -> usize
     requires { Wrappable text.now wire.old }
     ensures { Wraps text.now wire.old result wire.new }
 {
-    let head = [2, text[0], b'0'];
-    basics::lay(&head, wire, 0);
+    basics::lay(&[2, text[0], b'0'], wire, 0);
     basics::lay(&text[1..], wire, 3);
-    let end = text.len() + 2;
-    let tail = [3u8];
-    basics::lay(&tail, wire, end);
-    end + 1
-}
-
-// A number, and the same below 0.
-fn above(n: u32) -> i32
-    requires { n ≤ 40000 }
-    ensures { result ≡ pos n }
-{
-    n as i32
-}
-
-fn below(n: u32) -> i32
-    requires { n ≤ 40000 }
-    ensures { result ≡ neg_ℤ (pos n) }
-{
-    0 - above(n)
+    basics::lay(&[3], wire, text.len() + 2);
+    text.len() + 3
 }
 
 impl Station {
     // "Address 1."
+    #[tactic(auto, using(crate::proofs::Serving::starts))]
     pub fn new(desk: Desk) -> Station
         ensures { Starts desk result }
     {
-        let controller = Controller::fresh(Framing::Dt, Address::One);
         Station {
             desk,
             lend: 32,
             sense: Sense::nothing(),
-            controller,
+            controller: Controller::fresh(Framing::Dt, Address::One),
         }
     }
 
     fn on(self, controller: Controller) -> Station
         ensures { result ≡ on controller self }
     {
-        let desk = self.desk;
-        let sense = self.sense;
-        Station {
-            desk,
-            lend: self.lend,
-            sense,
-            controller,
+        Station { controller, ..self }
+    }
+
+    // A line that says no more than this.
+    #[tactic(auto, using(crate::proofs::Serving::says))]
+    fn says(self, text: &[u8], out: &mut [u8], at: usize) -> Replied
+        requires manned { Manned self }
+        requires at_in_bounds { at + length text.now + 1 ≤ length out.old }
+        ensures { Replies (length text.now + 1) (served self (ended text.now)) at out.old result out.new }
+    {
+        Replied {
+            station: self,
+            end: printing::line(text, out, at),
         }
     }
 
@@ -109,103 +99,69 @@ impl Station {
         requires { Manned self }
         ensures { Tells b self buf.old result buf.new }
     {
-        let c = self.controller;
-        let reply = c.byte(b, buf);
-        let after = reply.controller;
-        let said = reply.said;
+        let reply = self.controller.byte(b, buf);
         Told {
-            station: self.on(after),
-            said,
+            station: self.on(reply.controller),
+            said: reply.said,
         }
     }
 
     // The last byte of a frame, and what is answered.
-    fn finish_in(self, last: u8, buf: &mut [u8], out: &mut [u8], at: usize) -> Replied
-        requires manned { Manned self }
-        requires buf_len_bound { length buf.old ≤ 64 }
-        requires at_in_bounds { at + 65 ≤ length out.old }
-        ensures { Replies 65 (shown_by (told_of last buf.old self) self) at out.old result out.new }
-    {
-        let c = self.controller;
-        let framing = c.framing();
-        let told = self.tell(last, buf);
-        let said = told.said;
-        let end = printing::show(framing, said, buf, out, at);
-        let station = told.station;
-        Replied { station, end }
-    }
-
+    #[tactic(auto, using(crate::proofs::Serving::buffer_counted, crate::proofs::Serving::buffer_short))]
     fn finish(self, last: u8, out: &mut [u8], at: usize) -> Replied
         requires manned { Manned self }
         requires at_in_bounds { at + 65 ≤ length out.old }
         ensures { Replies 65 (ended_of last self) at out.old result out.new }
     {
         let mut buf = [0u8; 64];
-        let lend = self.lend;
-        self.finish_in(last, &mut buf[..lend], out, at)
+        let lent = &mut buf[..self.lend];
+        let told = self.tell(last, lent);
+        Replied {
+            station: told.station,
+            end: printing::show(self.controller.framing(), told.said, lent, out, at),
+        }
     }
 
     // What follows a frame's first byte, and its last: no frame ends before that.
+    #[tactic(auto, using(crate::proofs::Serving::still_manned))]
     fn go_on(self, rest: &[u8], last: u8, out: &mut [u8], at: usize) -> Replied
         requires manned { Manned self }
         requires at_in_bounds { at + 65 ≤ length out.old }
         ensures { Replies 65 (gone_on rest.now last self) at out.old result out.new }
     {
-        let c = self.controller;
-        let fed = c.listen(rest);
-        let after = fed.controller;
-        let begun = self.on(after);
-        begun.finish(last, out, at)
+        self.on(self.controller.listen(rest).controller)
+            .finish(last, out, at)
     }
 
     // A frame: its first byte tells that a buffer is too short.
+    #[tactic(auto, using(crate::proofs::Serving::buffer_counted))]
     fn send(self, first: u8, rest: &[u8], last: u8, out: &mut [u8], at: usize) -> Replied
         requires manned { Manned self }
         requires at_in_bounds { at + 65 ≤ length out.old }
         ensures { Replies 65 (sent_of first rest.now last self) at out.old result out.new }
     {
         let mut buf = [0u8; 64];
-        let lend = self.lend;
-        let told = self.tell(first, &mut buf[..lend]);
-        let said = told.said;
-        let begun = told.station;
-        match said {
-            Said::Silent => begun.go_on(rest, last, out, at),
-            Said::Answer(_) => begun.go_on(rest, last, out, at),
-            Said::S1 => {
-                let end = printing::line(b"S1", out, at);
-                Replied {
-                    station: begun,
-                    end,
-                }
-            }
+        let told = self.tell(first, &mut buf[..self.lend]);
+        match told.said {
+            Ok(_) => told.station.go_on(rest, last, out, at),
+            Err(S1) => told.station.says(b"S1", out, at),
         }
     }
 
-    // An OEM frame, laid out in a lent array.
-    fn send_in(self, text: &[u8], wire: &mut [u8], out: &mut [u8], at: usize) -> Replied
-        requires manned { Manned self }
-        requires wrappable { Wrappable text.now wire.old }
-        requires at_in_bounds { at + 65 ≤ length out.old }
-        ensures { Replies 65 (framed_by Framing.Oem text.now self) at out.old result out.new }
-    {
-        let n = wrap(text, wire);
-        let last = line::sum(&wire[..n]);
-        self.send(2, &wire[1..n], last, out, at)
-    }
-
-    // 02h, the text's first character as address, 30h, the rest as data, 03h and the sum; a text without an address can't be sent.
+    // An OEM frame, as `wrap` lays it, and the sum; a text without an address can't be sent.
+    #[tactic(auto, using(crate::proofs::Wrapping::all_there, crate::proofs::Wrapping::one_before, crate::proofs::Wrapping::counted))]
     fn send_oem(self, text: &[u8], out: &mut [u8], at: usize) -> Replied
         requires manned { Manned self }
         requires text_len_bound { length text.now ≤ 400 }
         requires at_in_bounds { at + 65 ≤ length out.old }
         ensures { Replies 65 (framed_by Framing.Oem text.now self) at out.old result out.new }
     {
-        if text.len() == 0 {
-            return self.wrong(out, at);
+        if text.is_empty() {
+            return self.says(b"?", out, at);
         }
         let mut wire = [0u8; 403];
-        self.send_in(text, &mut wire, out, at)
+        let n = wrap(text, &mut wire);
+        self.send(2, &wire[1..n], line::sum(&wire[..n]), out, at)
     }
 
     // "sends `/`, the text, CR", or an OEM frame, as the controller was made.
@@ -215,8 +171,7 @@ impl Station {
         requires at_in_bounds { at + 65 ≤ length out.old }
         ensures { Replies 65 (framed_of text.now self) at out.old result out.new }
     {
-        let c = self.controller;
-        match c.framing() {
+        match self.controller.framing() {
             Framing::Dt => self.send(b'/', text, 13, out, at),
             Framing::Oem => self.send_oem(text, out, at),
         }
@@ -229,172 +184,111 @@ impl Station {
         requires at_in_bounds { at + 38 ≤ length out.old }
         ensures { Replies 38 (placed_of controller asked self) at out.old result out.new }
     {
-        let device = controller.device;
-        let core = device.core;
-        let body = core.body;
-        let end = printing::place(body.plunger, body.exact, asked, out, at);
+        let body = controller.device.core.body;
         Replied {
             station: self.on(controller),
-            end,
+            end: printing::place(body.plunger, body.exact, asked, out, at),
         }
     }
 
+    #[tactic(auto, using(crate::proofs::Serving::waits))]
     fn wait(self, n: u32, out: &mut [u8], at: usize) -> Replied
         requires manned { Manned self }
         requires at_in_bounds { at + 38 ≤ length out.old }
         ensures { Replies 38 (waited_of n self) at out.old result out.new }
     {
-        let c = self.controller;
-        let desk = self.desk;
-        let sense = self.sense;
-        let ticked = c.advance(n, sense);
-        let after = ticked.controller;
-        let news = ticked.news;
-        self.place(after, shows(desk, news.eject), out, at)
+        let ticked = self.controller.advance(n, self.sense);
+        self.place(
+            ticked.controller,
+            shows(self.desk, ticked.news.eject),
+            out,
+            at,
+        )
     }
 
     // What a run used, and where it left the plunger.
-    fn ran(
-        self,
-        used: Used,
-        controller: Controller,
-        asked: bool,
-        out: &mut [u8],
-        at: usize,
-    ) -> Replied
-        requires manned { Manned self }
-        requires valid { Valid controller }
-        requires at_in_bounds { at + 49 ≤ length out.old }
-        ensures { Replies 49 (used_up used controller asked self) at out.old result out.new }
-    {
-        let device = controller.device;
-        let core = device.core;
-        let body = core.body;
-        let end = printing::used(used, body.plunger, body.exact, asked, out, at);
-        Replied {
-            station: self.on(controller),
-            end,
-        }
-    }
-
     fn run(self, n: u32, out: &mut [u8], at: usize) -> Replied
         requires manned { Manned self }
         requires at_in_bounds { at + 49 ≤ length out.old }
         ensures { Replies 49 (ran_of n self) at out.old result out.new }
     {
-        let c = self.controller;
-        let desk = self.desk;
-        let sense = self.sense;
-        let ran = c.run(n, sense);
-        let used = ran.used;
+        let ran = self.controller.run(n, self.sense);
         let ticked = ran.ticked;
-        let after = ticked.controller;
-        let news = ticked.news;
-        self.ran(used, after, shows(desk, news.eject), out, at)
+        let body = ticked.controller.device.core.body;
+        let asked = shows(self.desk, ticked.news.eject);
+        Replied {
+            station: self.on(ticked.controller),
+            end: printing::used(ran.used, body.plunger, body.exact, asked, out, at),
+        }
     }
 
+    #[tactic(auto, using(crate::proofs::Serving::stopped_valid, crate::proofs::Serving::halts))]
     fn stop(self, out: &mut [u8], at: usize) -> Replied
         requires manned { Manned self }
         requires at_in_bounds { at + 38 ≤ length out.old }
         ensures { Replies 38 (halted_of self) at out.old result out.new }
     {
-        let c = self.controller;
-        let after = c.stop();
-        self.place(after, false, out, at)
+        self.place(self.controller.stop(), false, out, at)
     }
 
     // Answer buffers of n bytes from now on.
+    #[tactic(auto, using(crate::proofs::Serving::lend_manned))]
     fn buffers(self, n: u32, out: &mut [u8], at: usize) -> Replied
         requires manned { Manned self }
         requires n_bound { n ≤ 64 }
         requires at_in_bounds { at + 3 ≤ length out.old }
         ensures { Replies 3 (lent_of n self) at out.old result out.new }
     {
-        let desk = self.desk;
-        let controller = self.controller;
-        let sense = self.sense;
-        let lend = n as usize;
-        let end = printing::line(b"ok", out, at);
-        Replied {
-            station: Station {
-                desk,
-                lend,
-                sense,
-                controller,
-            },
-            end,
-        }
-    }
-
-    // What the host senses from now on.
-    fn senses(self, sense: Sense, out: &mut [u8], at: usize) -> Replied
-        requires manned { Manned self }
-        requires at_in_bounds { at + 3 ≤ length out.old }
-        ensures { Replies 3 (sensed_of sense self) at out.old result out.new }
-    {
-        let desk = self.desk;
-        let controller = self.controller;
-        let end = printing::line(b"ok", out, at);
-        Replied {
-            station: Station {
-                desk,
-                lend: self.lend,
-                sense,
-                controller,
-            },
-            end,
-        }
+        let station = Station {
+            lend: n as usize,
+            ..self
+        };
+        station.says(b"ok", out, at)
     }
 
     // A tip from now on, or none.
+    #[tactic(auto, using(crate::proofs::Serving::sense_manned))]
     fn tip(self, n: u32, out: &mut [u8], at: usize) -> Replied
         requires manned { Manned self }
         requires at_in_bounds { at + 3 ≤ length out.old }
         ensures { Replies 3 (tipped_of (eqb n 1) self) at out.old result out.new }
     {
-        let sense = self.sense;
-        self.senses(sense.with_tip(n == 1), out, at)
+        let station = Station {
+            sense: self.sense.with_tip(n == 1),
+            ..self
+        };
+        station.says(b"ok", out, at)
     }
 
     // A reading from now on.
+    #[tactic(auto, using(crate::proofs::Serving::sense_manned))]
     fn press(self, reading: i32, out: &mut [u8], at: usize) -> Replied
         requires manned { Manned self }
         requires at_in_bounds { at + 3 ≤ length out.old }
         ensures { Replies 3 (pressed_of reading self) at out.old result out.new }
     {
-        let sense = self.sense;
-        self.senses(sense.with_reading(reading), out, at)
-    }
-
-    // A fresh controller.
-    fn renew(self, framing: Framing, a: Address, out: &mut [u8], at: usize) -> Replied
-        requires manned { Manned self }
-        requires at_in_bounds { at + 3 ≤ length out.old }
-        ensures { Replies 3 (made_by framing (Given.Is a) self) at out.old result out.new }
-    {
-        let fresh = Controller::fresh(framing, a);
-        let end = printing::line(b"ok", out, at);
-        Replied {
-            station: self.on(fresh),
-            end,
-        }
+        let station = Station {
+            sense: self.sense.with_reading(reading),
+            ..self
+        };
+        station.says(b"ok", out, at)
     }
 
     // A fresh controller, or S2 and the old one.
+    #[tactic(auto, using(crate::proofs::Serving::fresh_manned))]
     fn make(self, framing: Framing, n: u32, out: &mut [u8], at: usize) -> Replied
         requires manned { Manned self }
         requires at_in_bounds { at + 3 ≤ length out.old }
         ensures { Replies 3 (made_by framing (address_of n) self) at out.old result out.new }
     {
-        match Address::of(n) {
-            Given::Is(a) => self.renew(framing, a, out, at),
-            Given::S2 => {
-                let end = printing::line(b"S2", out, at);
-                Replied { station: self, end }
-            }
-        }
+        let Ok(address) = Address::try_from(n) else {
+            return self.says(b"S2", out, at);
+        };
+        let fresh = Controller::fresh(framing, address);
+        self.on(fresh).says(b"ok", out, at)
     }
 
+    #[tactic(auto, using(crate::proofs::Serving::press_within, crate::proofs::Serving::minus_within, crate::proofs::Serving::lend_within))]
     fn number(self, q: Quantity, n: u32, out: &mut [u8], at: usize) -> Replied
         requires manned { Manned self }
         requires n_bound { n ≤ most_of q }
@@ -408,81 +302,63 @@ impl Station {
             Quantity::New => self.make(Framing::Dt, n, out, at),
             Quantity::Oem => self.make(Framing::Oem, n, out, at),
             Quantity::Tip => self.tip(n, out, at),
-            Quantity::Press => self.press(above(n), out, at),
-            Quantity::Minus => self.press(below(n), out, at),
+            Quantity::Press => self.press(n as i32, out, at),
+            Quantity::Minus => self.press(-(n as i32), out, at),
         }
     }
 
     // A raw byte, and what is said to it.
-    fn hear_in(self, b: u8, first: bool, buf: &mut [u8], out: &mut [u8], at: usize) -> Replied
-        requires manned { Manned self }
-        requires buf_len_bound { length buf.old ≤ 64 }
-        requires at_in_bounds { at + 195 ≤ length out.old }
-        ensures { Replies 195 (added_by first (told_of b buf.old self) self) at out.old result out.new }
-    {
-        let told = self.tell(b, buf);
-        let said = told.said;
-        let end = printing::raw(first, said, buf, out, at);
-        let station = told.station;
-        Replied { station, end }
-    }
-
+    #[tactic(auto, using(crate::proofs::Serving::buffer_counted, crate::proofs::Serving::buffer_short))]
     fn hear(self, b: u8, first: bool, out: &mut [u8], at: usize) -> Replied
         requires manned { Manned self }
         requires at_in_bounds { at + 195 ≤ length out.old }
         ensures { Replies 195 (said_to b first self) at out.old result out.new }
     {
         let mut buf = [0u8; 64];
-        let lend = self.lend;
-        self.hear_in(b, first, &mut buf[..lend], out, at)
+        let lent = &mut buf[..self.lend];
+        let told = self.tell(b, lent);
+        Replied {
+            station: told.station,
+            end: printing::raw(first, told.said, lent, out, at),
+        }
     }
 
+    // Bytes as two hex digits each, a space between two.
+    #[tactic(auto, using(crate::proofs::Raw::still_manned, crate::proofs::Raw::byte_room, crate::proofs::Raw::close_room))]
     fn raw(self, t: &[u8], out: &mut [u8], start: usize) -> Replied
         requires manned { Manned self }
         requires t_len_bound { length t.now ≤ 400 }
         requires t_in_bounds { start + 80 * (length t.now + 3) ≤ length out.old }
         ensures { Replies (80 * (length t.now + 3)) (raw_of (bytes_in t.now) self) start out.old result out.new }
     {
-        let mut s = self;
+        let mut station = self;
         let mut at = start;
-        let mut i = 0;
-        let mut next = 1;
-        while next < t.len() {
-            let b = hex::byte(t[i], t[next]);
-            let heard = s.hear(b, start == at, out, at);
-            s = heard.station;
+        let mut rest = t;
+        while let [a, b, ..] = rest {
+            let heard = station.hear(hex::byte(*a, *b), start == at, out, at);
+            station = heard.station;
             at = heard.end;
-            i += 3;
-            next += 3;
+            rest = &rest[rest.len().min(3)..];
         }
-        let end = printing::close(start == at, out, at);
-        Replied { station: s, end }
-    }
-
-    // A line of other form.
-    fn wrong(self, out: &mut [u8], at: usize) -> Replied
-        requires manned { Manned self }
-        requires at_in_bounds { at + 2 ≤ length out.old }
-        ensures { Replies 2 (did_of Asked.Wrong [] self) at out.old result out.new }
-    {
-        let end = printing::line(b"?", out, at);
-        Replied { station: self, end }
+        Replied {
+            station,
+            end: printing::close(start == at, out, at),
+        }
     }
 
     // A complete line.
+    #[tactic(auto, using(crate::proofs::Serving::frame_starts, crate::proofs::Serving::frame_few, crate::proofs::Serving::bytes_start, crate::proofs::Serving::bytes_few, crate::proofs::Serving::bytes_fit, crate::proofs::Serving::number_within))]
     pub fn answer(self, line: &[u8], out: &mut [u8], at: usize) -> Replied
         requires manned { Manned self }
         requires line_in_bounds { at + 80 * (length line.now + 1) ≤ length out.old }
         ensures { Replies (80 * (length line.now + 1)) (served_of line.now self) at out.old result out.new }
     {
-        let desk = self.desk;
-        let asked = desk::read(desk, line);
-        match asked {
+        match desk::read(self.desk, line) {
             Asked::Send => self.frame(&line[2..], out, at),
             Asked::Number(q, n) => self.number(q, n, out, at),
             Asked::Stop => self.stop(out, at),
             Asked::Raw => self.raw(&line[2..], out, at),
-            Asked::Wrong => self.wrong(out, at),
+            Asked::Wrong => self.says(b"?", out, at),
         }
     }
 }

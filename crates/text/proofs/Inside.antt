@@ -5,10 +5,9 @@ use mathlib.Core.List.{List, [], ◌∷◌, ◌++◌, append_assoc}
 use Prim.Native.Nat.{ℕ, ◌+◌, ◌≤◌, ◌<◌}
 use native.Mathlib.Omega.{arith}
 use lib.ListN.{length}
+use Rattle.std.specs.Prelude.{Ok, Some}
 use Rattle.command.specs.declared.Command.{Command}
-use Rattle.command.specs.declared.Found.TheVariants as F
 use Rattle.command.specs.Command.{command_at}
-use Rattle.text.specs.declared.loops.Level.TheVariants.{At}
 use Rattle.text.specs.Text.{Step}
 use Rattle.text.specs.Loops.{Part, opens, closes, plain, part_of, Nest, done, one, loop, spell, Proper, depth, levels}
 use Rattle.text.specs.Inside.{Round, loop_of, ends, Inside, first, past, into, behind, MayRun, start_of, Place, Before}
@@ -72,9 +71,9 @@ module _ (t : List ℕ) where
 record Front (all rest : List Step) (n : ℕ) : Type 0 where
   steps : List Step
   same : steps ++ rest ≡ all
-  counted : levels steps 0 ≡ At n
+  counted : levels steps 0 ≡ Some n
 
-grown : (all added rest : List Step) (n m : ℕ) → levels added n ≡ At m → Front all (added ++ rest) n → Front all rest m
+grown : (all added rest : List Step) (n m : ℕ) → levels added n ≡ Some m → Front all (added ++ rest) n → Front all rest m
 grown all added rest n m e f =
     record {
       steps = f.steps ++ added;
@@ -101,7 +100,7 @@ in_front whole x rs (into r rs₁ i) p h =
     let q = proper_inside whole (loop_of r) rs₁ i p in
     let k = shallow_inside whole (loop_of r) rs₁ i h in
     grown (spell whole []) (r.opening ∷ []) (spell r.body (ends (r ∷ rs₁))) (length rs₁) (length (r ∷ rs₁))
-    (level_open (length rs₁) r.opening [] q.0 (omega arith) ∙ ap At (omega arith))
+    (level_open (length rs₁) r.opening [] q.0 (omega arith) ∙ ap Some (omega arith))
     (in_front whole (loop_of r) rs₁ i p h)
 in_front whole x rs (behind r rs₁ i) p h =
     let q = proper_inside whole (loop_of r) rs₁ i p in
@@ -140,7 +139,7 @@ After t may s rounds (closes n) = Ending t may s n rounds
 pub record Next (t : List ℕ) (may : MayRun t) (at : ℕ) (rounds : List Round) : Type 0 where
   pub command : Command
   pub next : ℕ
-  pub found : command_at t at ≡ F.Command command next
+  pub found : command_at t at ≡ Ok (Some (command, next))
   pub after : After t may (record { at = at; command = command; next = next }) rounds (part_of command)
 
 module _ (t : List ℕ) (may : MayRun t) where

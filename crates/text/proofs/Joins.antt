@@ -5,14 +5,14 @@ use mathlib.Core.List.{List, [], ◌∷◌, ◌++◌}
 use Prim.Native.Nat.{ℕ, ◌+◌}
 use native.Mathlib.Omega.{arith}
 use lib.ListN.{length}
-use Rattle.std.specs.Prelude.{if◌then◌else◌}
+use Rattle.std.specs.Prelude.{if◌then◌else◌, Err, None, Ok, Result, Some}
+use Rattle.command.specs.declared.Malformed.{Malformed}
+use Rattle.command.specs.declared.Malformed.TheVariants.{NoLetter, WrongOperand}
+use Rattle.command.specs.declared.Command.{Command}
+use Rattle.command.specs.Found.{Found}
 use Rattle.operand.specs.declared.Class.TheVariants.{Operand}
 use Rattle.operand.specs.Text.{has, run, rest, operand_text}
 use Rattle.operand.proofs.Runs.{run_rest}
-use Rattle.command.specs.declared.Formed.{Formed}
-use Rattle.command.specs.declared.Formed.TheVariants.{Made, NoLetter, WrongOperand}
-use Rattle.command.specs.declared.Found.{Found}
-use Rattle.command.specs.declared.Found.TheVariants as F
 use Rattle.command.specs.declared.refusal.Misread.{Misread}
 use Rattle.command.specs.declared.refusal.Misread.TheVariants as R
 use Rattle.command.specs.Table.{letter_of, command_of}
@@ -46,22 +46,22 @@ moved_reading k (reads steps) = reads (moved k steps)
 moved_reading k (wrong r) = wrong (moved_misread k r)
 
 abbrev moved_found : ℕ → Found → Found
-moved_found k (F.Command c next) = F.Command c (k + next)
-moved_found k (F.Refused r) = F.Refused (moved_misread k r)
-moved_found k F.End = F.End
+moved_found k (Ok (Some (c, next))) = Ok (Some (c, k + next))
+moved_found k (Err r) = Err (moved_misread k r)
+moved_found k (Ok None) = Ok None
 
 -- reading is the same wherever a text stands
-placed_moved : (k at n : ℕ) (f : Formed) → placed (k + at) n f ≡ moved_found k (placed at n f)
+placed_moved : (k at n : ℕ) (f : Result Command Malformed) → placed (k + at) n f ≡ moved_found k (placed at n f)
 unfolding placed
-placed_moved k at n (Made c) = ap (F.Command c) (omega arith)
-placed_moved k at n NoLetter = refl
-placed_moved k at n (WrongOperand read) = ap (λ p. F.Refused (R.Operand p read)) (omega arith)
+placed_moved k at n (Ok c) = ap (λ n. Ok (Some (c, n))) (omega arith)
+placed_moved k at n (Err NoLetter) = refl
+placed_moved k at n (Err (WrongOperand read)) = ap (λ p. Err (R.Operand p read)) (omega arith)
 
 then_moved : (k at : ℕ) (f : Found) (rest : Reading) → then_read (k + at) (moved_found k f) (moved_reading k rest) ≡ moved_reading k (then_read at f rest)
-then_moved k at (F.Command c next) (reads steps) = refl
-then_moved k at (F.Command c next) (wrong r) = refl
-then_moved k at (F.Refused r) rest = refl
-then_moved k at F.End rest = refl
+then_moved k at (Ok (Some (c, next))) (reads steps) = refl
+then_moved k at (Ok (Some (c, next))) (wrong r) = refl
+then_moved k at (Err r) rest = refl
+then_moved k at (Ok None) rest = refl
 
 read_moved : (k : ℕ) (x : Bool) (at : ℕ) (t : List ℕ) → read_from x (k + at) t ≡ moved_reading k (read_from x at t)
 unfolding read_from found_in
@@ -101,11 +101,11 @@ fresh true at t e =
     behind_operands at t ∙ rw (e, all, z)
 
 then_and : (at : ℕ) (f : Found) (a b : Reading) → then_read at f (and_read a b) ≡ and_read (then_read at f a) b
-then_and at (F.Command c next) (reads xs) (reads ys) = refl
-then_and at (F.Command c next) (reads xs) (wrong r) = refl
-then_and at (F.Command c next) (wrong r) b = refl
-then_and at (F.Refused r) a b = refl
-then_and at F.End a b = refl
+then_and at (Ok (Some (c, next))) (reads xs) (reads ys) = refl
+then_and at (Ok (Some (c, next))) (reads xs) (wrong r) = refl
+then_and at (Ok (Some (c, next))) (wrong r) b = refl
+then_and at (Err r) a b = refl
+then_and at (Ok None) a b = refl
 
 nothing_and : (b : Reading) → and_read (reads []) b ≡ b
 nothing_and (reads ys) = refl

@@ -6,25 +6,22 @@ use Prim.Native.Nat.{ℕ, ◌≤◌}
 use native.Mathlib.Omega.{arith}
 use lib.Dec.{eqb}
 use lib.ListN.{length, take}
-use Rattle.std.specs.Prelude.{if◌then◌else◌}
+use Rattle.std.specs.Prelude.{if◌then◌else◌, Err, None, Ok, Option, Result, Some}
+use Rattle.command.specs.declared.refusal.Misread.{Misread}
 use Rattle.operand.specs.Number.{number_of}
-use Rattle.text.specs.declared.Asked.{Asked}
-use Rattle.text.specs.declared.Asked.TheVariants as A
 use Rattle.text.specs.declared.Question.{Question}
 use Rattle.text.specs.declared.Question.TheVariants.{Query, Value}
 use Rattle.text.specs.declared.Control.{Control}
 use Rattle.text.specs.declared.Control.TheVariants.{Run, Stop, Again, Clear, Reset}
 use Rattle.text.specs.declared.Data.{Data}
 use Rattle.text.specs.declared.Data.TheVariants as D
-use Rattle.text.specs.declared.Checked.{Checked}
-use Rattle.text.specs.declared.Checked.TheVariants.{Fine, Wrong}
 use Rattle.text.specs.Text.{check_of}
 use Rattle.text.specs.Data.{asked_of, report, addressed, body, runs, string, string_of, control_of, data_of}
 
 pub record InFront (t : List ℕ) (n : ℕ) (run : Bool) : Type 0 where
   pub short : n ≤ length t
   pub front : take n t ≡ body t
-  pub good : check_of (take n t) ≡ Fine
+  pub good : check_of (take n t) ≡ Ok tt
   pub said : run ≡ runs t
 
 pub body_short : (t : List ℕ) → length (body t) ≤ length t
@@ -54,9 +51,9 @@ module _ (n : ℕ) (run : Bool) where
   no_control : (c : Control) → No (D.Control c)
   no_control c e = let z : ◌≡◌ {A = ℕ} 0 1 = cc in omega arith
 
-  no_report : (f : ℕ → Question) (a : Asked) → No (report f a)
-  no_report f (A.Number m) e = let z : ◌≡◌ {A = ℕ} 0 1 = cc in omega arith
-  no_report f A.Wrong e = let z : ◌≡◌ {A = ℕ} 0 1 = cc in omega arith
+  no_report : (f : ℕ → Question) (a : Option ℕ) → No (report f a)
+  no_report f (Some m) e = let z : ◌≡◌ {A = ℕ} 0 1 = cc in omega arith
+  no_report f None e = let z : ◌≡◌ {A = ℕ} 0 1 = cc in omega arith
 
   no_address : (t : List ℕ) → No (addressed t)
   no_address [] e = let z : ◌≡◌ {A = ℕ} 0 1 = cc in omega arith
@@ -87,12 +84,12 @@ module _ (n : ℕ) (run : Bool) where
       (second (eqb b 63) _ _ (no_report Value (asked_of (number_of t)))
       (second (eqb b 81) _ _ (no_report Query (asked_of (number_of t))) e)))
 
-  string_in_front : (t : List ℕ) (c : Checked) → check_of (body t) ≡ c → string (body t) (runs t) c ≡ D.Text n run → InFront t n run
-  string_in_front t Fine q e =
+  string_in_front : (t : List ℕ) (c : Result Unit Misread) → check_of (body t) ≡ c → string (body t) (runs t) c ≡ D.Text n run → InFront t n run
+  string_in_front t (Ok tt) q e =
       let size : n ≡ length (body t) = cc in
       let whole = body_front t in
       record { short = rw size (body_short t); front = rw size whole; good = rw (size, whole) q; said = cc }
-  string_in_front t (Wrong r) q e = let z : ◌≡◌ {A = ℕ} 0 1 = cc in absurd (omega arith)
+  string_in_front t (Err r) q e = let z : ◌≡◌ {A = ℕ} 0 1 = cc in absurd (omega arith)
 
   pub a_text_stands_in_front : (t : List ℕ) → data_of t ≡ D.Text n run → InFront t n run
   unfolding string_of

@@ -8,42 +8,43 @@ use borrow.Author.Tests.{ltb-true, ltb-false}
 use lib.Dec.{ltb}
 use lib.ListN.{length, take, drop, get_or, take-append-drop}
 use lib.Seq.{drop-append-le, length-take-le}
+use Rattle.std.specs.Prelude.{Err, None, Ok, Some}
+use Rattle.command.specs.Found.{Found}
 use Rattle.basics.proofs.Lists.{drop_step}
 use Rattle.operand.specs.declared.Class.TheVariants.{Operand}
 use Rattle.operand.specs.Text.{has, operand_text}
 use Rattle.operand.proofs.Runs.{run_stop, run_end}
 use Rattle.command.specs.declared.Command.{Command}
-use Rattle.command.specs.declared.Found.{Found}
-use Rattle.command.specs.declared.Found.TheVariants as F
 use Rattle.command.specs.declared.refusal.Misread.{Misread}
 use Rattle.command.specs.Command.{command_at}
 use Rattle.command.proofs.Reach.{a_command_reaches_the_next_letter, nothing_only_at_the_end, a_command_in_front}
+use Rattle.command.proofs.Made.{same_found}
 use Rattle.text.specs.Text.{Step, Reading, reads, wrong, then_read, read_from, read_of}
 use Rattle.text.proofs.Places.{read_at, read_end, read_refused, read_command}
 
 -- steps laid end to end from a place up to another, each the command at its place
 abbrev pub Tiled : List ℕ → ℕ → List Step → ℕ → Type 0
 Tiled t from [] to = from ≡ to
-Tiled t from (s ∷ steps) to = (s.at ≡ from) × (command_at t from ≡ F.Command s.command s.next) × Tiled t s.next steps to
+Tiled t from (s ∷ steps) to = (s.at ≡ from) × (command_at t from ≡ Ok (Some (s.command, s.next))) × Tiled t s.next steps to
 
 -- what is read from a place on: steps up to the text's end, or up to the wrong command
 abbrev Walked : List ℕ → ℕ → Reading → Type 0
 Walked t from (reads steps) = Tiled t from steps (length t)
-Walked t from (wrong r) = (steps : List Step) × (place : ℕ) × Tiled t from steps place × (command_at t place ≡ F.Refused r)
+Walked t from (wrong r) = (steps : List Step) × (place : ℕ) × Tiled t from steps place × (command_at t place ≡ Err r)
 
 module _ (t : List ℕ) where
-  one_more : (from : ℕ) (c : Command) (next : ℕ) (rest : Reading) → command_at t from ≡ F.Command c next → Walked t next rest → Walked t from (then_read from (F.Command c next) rest)
+  one_more : (from : ℕ) (c : Command) (next : ℕ) (rest : Reading) → command_at t from ≡ Ok (Some (c, next)) → Walked t next rest → Walked t from (then_read from (Ok (Some (c, next))) rest)
   one_more from c next (reads steps) e w = (refl, e, w)
   one_more from c next (wrong r) e w = (record { at = from; command = c; next = next } ∷ w.0, w.1, (refl, e, w.2), w.3)
 
   at_one :
       (from : ℕ) → from < length t → ((next : ℕ) → from < next → next ≤ length t → Walked t next (read_at t next)) →
       (f : Found) → command_at t from ≡ f → Walked t from (read_at t from)
-  at_one from h more (F.Command c next) e =
+  at_one from h more (Ok (Some (c, next))) e =
       let r = a_command_reaches_the_next_letter t from c next e in
       rw (read_command t from c next h e) (one_more from c next (read_at t next) e (more next r.forward r.inside))
-  at_one from h more (F.Refused r) e = rw (read_refused t from r h e) ([], from, refl, e)
-  at_one from h more F.End e = absurd (omega (arith, nothing_only_at_the_end t from e))
+  at_one from h more (Err r) e = rw (read_refused t from r h e) ([], from, refl, e)
+  at_one from h more (Ok None) e = absurd (omega (arith, nothing_only_at_the_end t from e))
 
   -- n bounds the bytes that are left
   walk : (n from : ℕ) → length t ≤ n + from → from ≤ length t → Walked t from (read_at t from)
@@ -132,13 +133,13 @@ module _ (t : List ℕ) where
 pub record FirstWrong (t : List ℕ) (r : Misread) : Type 0 where
   pub steps : List Step
   pub place : ℕ
-  pub there : command_at t place ≡ F.Refused r
+  pub there : command_at t place ≡ Err r
   pub before : read_of (take place t) ≡ reads steps
   pub longest : (others : List Step) (k : ℕ) → Tiled t 0 others k → k ≤ place
 
 -- other steps from the same place end no later than at the wrong command
 no_further :
-    (t : List ℕ) (r : Misread) (place : ℕ) → command_at t place ≡ F.Refused r → (from : ℕ) (steps others : List Step) (k : ℕ) →
+    (t : List ℕ) (r : Misread) (place : ℕ) → command_at t place ≡ Err r → (from : ℕ) (steps others : List Step) (k : ℕ) →
     Tiled t from steps place → Tiled t from others k → k ≤ place
 no_further t r place w from steps [] k e o = omega (arith, forward t from steps place e)
 no_further t r place w from [] (s ∷ others) k e o =
@@ -148,7 +149,7 @@ no_further t r place w from [] (s ∷ others) k e o =
 no_further t r place w from (s ∷ steps) (s₁ ∷ others) k e o =
     let c = e.1 in
     let d = o.1 in
-    let n : s₁.next ≡ s.next = cc in
+    let n : s₁.next ≡ s.next = (same_found s₁.command s.command s₁.next s.next (sym d ∙ c)).1 in
     no_further t r place w s.next steps others k e.2 (rw n at o.2)
 
 pub a_refused_text_reads_up_to_its_wrong_command : (t : List ℕ) (r : Misread) → read_of t ≡ wrong r → FirstWrong t r

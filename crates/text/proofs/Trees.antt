@@ -7,9 +7,7 @@ use native.Mathlib.Omega.{arith}
 use borrow.Author.Tests.{lt-ltb, ltb-true, ne_eqb, eqb-true, eqb-false}
 use lib.Dec.{ltb, eqb}
 use lib.ListN.{length}
-use Rattle.std.specs.Prelude.{if◌then◌else◌}
-use Rattle.text.specs.declared.loops.Level.{Level}
-use Rattle.text.specs.declared.loops.Level.TheVariants.{At, Broken}
+use Rattle.std.specs.Prelude.{if◌then◌else◌, None, Option, Some}
 use Rattle.text.specs.Text.{Step}
 use Rattle.text.specs.Loops.{Part, opens, closes, plain, part_of, Nest, done, one, loop, spell, Proper, depth, Accepted, level_of, follow, levels, closed, loops_ok}
 
@@ -113,25 +111,25 @@ module _ (s : Step) (t : List Step) (d : ℕ) where
 
 -- a g and a G that the count lets stand
 module _ (t : List Step) (d : ℕ) where
-  opened : follow (level_of d opens) (levels t) ≡ At 0 → (d < 4) × (levels t (d + 1) ≡ At 0)
+  opened : follow (level_of d opens) (levels t) ≡ Some 0 → (d < 4) × (levels t (d + 1) ≡ Some 0)
   unfolding level_of
   opened h = go (ltb d 4) refl h
     where
-      go : (x : Bool) → ltb d 4 ≡ x → follow (if x then At (d + 1) else Broken) (levels t) ≡ At 0 → (d < 4) × (levels t (d + 1) ≡ At 0)
+      go : (x : Bool) → ltb d 4 ≡ x → follow (if x then Some (d + 1) else None) (levels t) ≡ Some 0 → (d < 4) × (levels t (d + 1) ≡ Some 0)
       go true q e = (ltb-true d 4 q, e)
       go false q e = let z : ◌≡◌ {A = ℕ} 0 1 = cc in absurd (omega arith)
 
-  closed_one : (n : ℕ) → follow (level_of d (closes n)) (levels t) ≡ At 0 → (0 < d) × (levels t (d - 1) ≡ At 0)
+  closed_one : (n : ℕ) → follow (level_of d (closes n)) (levels t) ≡ Some 0 → (0 < d) × (levels t (d - 1) ≡ Some 0)
   unfolding level_of
   closed_one n h = go (eqb d 0) refl h
     where
-      go : (x : Bool) → eqb d 0 ≡ x → follow (if x then Broken else At (d - 1)) (levels t) ≡ At 0 → (0 < d) × (levels t (d - 1) ≡ At 0)
+      go : (x : Bool) → eqb d 0 ≡ x → follow (if x then None else Some (d - 1)) (levels t) ≡ Some 0 → (0 < d) × (levels t (d - 1) ≡ Some 0)
       go true q e = let z : ◌≡◌ {A = ℕ} 0 1 = cc in absurd (omega arith)
       go false q e = let f = eqb-false d 0 q in (omega arith, e)
 
 split_by :
-    (s : Step) (t : List Step) (d : ℕ) → d ≤ 4 → ((e : ℕ) → e ≤ 4 → levels t e ≡ At 0 → Split t e) →
-    (p : Part) → part s ≡ p → follow (level_of d p) (levels t) ≡ At 0 → Split (s ∷ t) d
+    (s : Step) (t : List Step) (d : ℕ) → d ≤ 4 → ((e : ℕ) → e ≤ 4 → levels t e ≡ Some 0 → Split t e) →
+    (p : Part) → part s ≡ p → follow (level_of d p) (levels t) ≡ Some 0 → Split (s ∷ t) d
 unfolding level_of
 split_by s t d h more opens q e =
     let o = opened t d e in
@@ -142,7 +140,7 @@ split_by s t d h more (closes n) q e =
     rw z at (split_close s t (d - 1) n q (omega (arith, o.0)) (more (d - 1) (omega arith) o.1))
 split_by s t d h more plain q e = split_plain s t d q (more d h e)
 
-split : (t : List Step) (d : ℕ) → d ≤ 4 → levels t d ≡ At 0 → Split t d
+split : (t : List Step) (d : ℕ) → d ≤ 4 → levels t d ≡ Some 0 → Split t d
 unfolding levels
 split [] d h e =
     let z : d ≡ 0 = cc in
@@ -157,9 +155,9 @@ tree_of t s = go s.rounds s.spelt s.many
     go [] e m = record { nest = s.nest; proper = s.proper; spelt = e; shallow = omega (arith, s.shallow) }
     go (r ∷ rs) e m = absurd (omega arith)
 
-none_left : (l : Level) → closed l ≡ true → l ≡ At 0
-none_left (At d) e = ap At (eqb-true d 0 e)
-none_left Broken e = absurd (false≢true e)
+none_left : (l : Option ℕ) → closed l ≡ true → l ≡ Some 0
+none_left (Some d) e = ap Some (eqb-true d 0 e)
+none_left None e = absurd (false≢true e)
 
 -- whatever is accepted is a tree
 pub what_is_accepted_is_a_tree : (t : List Step) → loops_ok t ≡ true → Accepted t

@@ -1,18 +1,15 @@
 -- 01, "Reading the data": what the data of a frame are.
-use Rattle.std.specs.Prelude.{ℕ, ◌+◌, ◌/◌, Bool, false, ◌&&◌, List, [], ◌∷◌, eqb, ltb, length, set, ◌≡◌, if◌then◌else◌}
+use Rattle.std.specs.Prelude.{ℕ, ◌/◌, Bool, false, ◌&&◌, List, [], ◌∷◌, eqb, ltb, length, ◌≡◌, if◌then◌else◌, Err, None, Ok, Option, Result, Some}
+use Rattle.command.specs.declared.refusal.Misread.{Misread}
 use Rattle.basics.specs.Lay.{over}
 use Rattle.operand.specs.declared.Number.{Number}
 use Rattle.operand.specs.declared.Number.TheVariants as N
 use Rattle.operand.specs.Number.{number_of}
 use Rattle.text.specs.declared.Question.{Question}
 use Rattle.text.specs.declared.Question.TheVariants.{Query, Value, Address}
-use Rattle.text.specs.declared.Asked.{Asked}
-use Rattle.text.specs.declared.Asked.TheVariants as A
 use Rattle.text.specs.declared.Control.TheVariants.{Run, Stop, Again, Clear, Reset}
 use Rattle.text.specs.declared.Data.{Data}
 use Rattle.text.specs.declared.Data.TheVariants as D
-use Rattle.text.specs.declared.Checked.{Checked}
-use Rattle.text.specs.declared.Checked.TheVariants.{Fine, Wrong}
 use Rattle.text.specs.Text.{check_of}
 
 -- "Spaces are dropped first, everywhere."
@@ -25,21 +22,21 @@ pub record Squeezed (before : List ℕ) (r : ℕ) (after : List ℕ) : Type 0 wh
   pub count : r ≡ length (spaceless before)
   pub bytes : after ≡ over (spaceless before) 0 before
 
--- one byte of it (a private function's promise)
-pub record KeptByte (before : List ℕ) (kept b r : ℕ) (after : List ℕ) : Type 0 where
-  pub count : r ≡ (if eqb b 32 then kept else kept + 1)
-  pub bytes : after ≡ (if eqb b 32 then before else set before kept b)
-
 -- "Q and ? take nothing (read as 0) or a whole number of 1 to 6 digits"
-unfoldable pub asked_of : Number → Asked
-asked_of N.Absent = A.Number 0
-asked_of (N.Is n decimals) = if eqb decimals 0 then A.Number (n / 1000) else A.Wrong
-asked_of (N.Wrong read) = A.Wrong
+unfoldable pub asked_of : Number → Option ℕ
+asked_of N.Absent = Some 0
+asked_of (N.Is n decimals) = if eqb decimals 0 then Some (n / 1000) else None
+asked_of (N.Wrong read) = None
 
 -- "all else is 3"
-abbrev pub report : (ℕ → Question) → Asked → Data
-report f (A.Number n) = D.Report (f n)
-report f A.Wrong = D.WrongReport
+abbrev pub report : (ℕ → Question) → Option ℕ → Data
+report f (Some n) = D.Report (f n)
+report f None = D.WrongReport
+
+-- the same of a question (a private function's promise)
+abbrev pub asking : Option Question → Data
+asking (Some q) = D.Report q
+asking None = D.WrongReport
 
 -- "f nothing"
 abbrev pub addressed : List ℕ → Data
@@ -57,9 +54,9 @@ runs [] = false
 runs (b ∷ []) = eqb b 82
 runs (b ∷ c ∷ t) = runs (c ∷ t)
 
-abbrev pub string : List ℕ → Bool → Checked → Data
-string text run Fine = D.Text (length text) run
-string text run (Wrong r) = D.Wrong r
+abbrev pub string : List ℕ → Bool → Result Unit Misread → Data
+string text run (Ok tt) = D.Text (length text) run
+string text run (Err r) = D.Wrong r
 
 -- a string; "T, X, C or ! first but not exactly so" are letters outside the table, and so is R before the end
 unfoldable pub string_of : List ℕ → Data

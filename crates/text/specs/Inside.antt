@@ -1,6 +1,5 @@
 -- A place in the tree of a text: what is to come there, and the loops round it. A run of the text is at such a place before each command.
-use Rattle.std.specs.Prelude.{ℕ, ◌<◌, ◌≡◌, List, [], ◌∷◌, length, take}
-use Rattle.text.specs.declared.loops.Level.TheVariants.{At}
+use Rattle.std.specs.Prelude.{ℕ, ◌<◌, ◌≡◌, List, [], ◌∷◌, length, take, Some}
 use Rattle.text.specs.Text.{Step, reads, read_of}
 use Rattle.text.specs.Loops.{Nest, one, loop, spell, Accepted, levels}
 
@@ -49,4 +48,4 @@ pub record Place (t : List ℕ) (may : MayRun t) (at : ℕ) (rounds : List Round
 pub record Before (t : List ℕ) (at open-ones : ℕ) : Type 0 where
   pub steps : List Step
   pub reading : read_of (take at t) ≡ reads steps
-  pub counted : levels steps 0 ≡ At open-ones
+  pub counted : levels steps 0 ≡ Some open-ones

@@ -1,9 +1,7 @@
 -- 01, "Loops": a text as a tree of commands and loops.
-use Rattle.std.specs.Prelude.{ℕ, ◌+◌, ◌-◌, ◌≤◌, max, ◌≡◌, Bool, false, List, [], ◌∷◌, ◌++◌, ltb, eqb, if◌then◌else◌}
+use Rattle.std.specs.Prelude.{ℕ, ◌+◌, ◌-◌, ◌≤◌, max, ◌≡◌, Bool, false, List, [], ◌∷◌, ◌++◌, ltb, eqb, if◌then◌else◌, None, Option, Some}
 use Rattle.command.specs.declared.Command.{Command}
 use Rattle.command.specs.declared.Command.TheVariants as C
-use Rattle.text.specs.declared.loops.Level.{Level}
-use Rattle.text.specs.declared.loops.Level.TheVariants.{At, Broken}
 use Rattle.text.specs.Text.{Step, Reading, reads, wrong}
 
 -- g and G mark loops; every other command stands for itself
@@ -58,24 +56,24 @@ pub record Accepted (t : List Step) : Type 0 where
   pub shallow : depth nest ≤ 4
 
 -- counted: how many loops are open behind a command, or that it breaks the rules: depth 5, or a G without an open g
-unfoldable pub level_of : ℕ → Part → Level
-level_of d opens = if ltb d 4 then At (d + 1) else Broken
-level_of d (closes n) = if eqb d 0 then Broken else At (d - 1)
-level_of d plain = At d
+unfoldable pub level_of : ℕ → Part → Option ℕ
+level_of d opens = if ltb d 4 then Some (d + 1) else None
+level_of d (closes n) = if eqb d 0 then None else Some (d - 1)
+level_of d plain = Some d
 
-abbrev pub follow : Level → (ℕ → Level) → Level
-follow (At d) more = more d
-follow Broken more = Broken
+abbrev pub follow : Option ℕ → (ℕ → Option ℕ) → Option ℕ
+follow (Some d) more = more d
+follow None more = None
 
 -- behind a whole text, from so many open loops on
-unfoldable pub levels : List Step → ℕ → Level
-levels [] d = At d
+unfoldable pub levels : List Step → ℕ → Option ℕ
+levels [] d = Some d
 levels (s ∷ t) d = follow (level_of d (part_of s.command)) (levels t)
 
 -- "A g left open .. is 3": none is open at the end
-abbrev pub closed : Level → Bool
-closed (At d) = eqb d 0
-closed Broken = false
+abbrev pub closed : Option ℕ → Bool
+closed (Some d) = eqb d 0
+closed None = false
 
 -- right loops: none is open at the start, nor at the end
 unfoldable pub loops_ok : List Step → Bool
@@ -88,6 +86,6 @@ loops_in (reads a) (wrong r) = false
 loops_in (wrong r) b = false
 
 -- one part's share of it
-abbrev pub level_read : Reading → ℕ → Level
+abbrev pub level_read : Reading → ℕ → Option ℕ
 level_read (reads steps) d = levels steps d
-level_read (wrong r) d = Broken
+level_read (wrong r) d = None

@@ -1,14 +1,11 @@
 -- 01, "Reading the data": a text is read from the left, command by command, and the first wrong place decides.
-use Rattle.std.specs.Prelude.{ℕ, ◌+◌, Bool, true, false, ◌&&◌, List, [], ◌∷◌, if◌then◌else◌}
+use Rattle.std.specs.Prelude.{ℕ, ◌+◌, Bool, true, false, ◌&&◌, List, [], ◌∷◌, if◌then◌else◌, Err, None, Ok, Result, Some}
+use Rattle.command.specs.Found.{Found}
 use Rattle.operand.specs.declared.Class.TheVariants.{Operand}
 use Rattle.operand.specs.Text.{has}
 use Rattle.command.specs.declared.Command.{Command}
-use Rattle.command.specs.declared.Found.{Found}
-use Rattle.command.specs.declared.Found.TheVariants as F
 use Rattle.command.specs.declared.refusal.Misread.{Misread}
 use Rattle.command.specs.Command.{found_in}
-use Rattle.text.specs.declared.Checked.{Checked}
-use Rattle.text.specs.declared.Checked.TheVariants.{Fine, Wrong}
 
 -- a command that was read, from a place up to the next
 pub record Step : Type 0 where
@@ -22,10 +19,10 @@ pub data Reading : Type 0 where
 
 -- what stands at a place, and then what follows it
 abbrev pub then_read : ℕ → Found → Reading → Reading
-then_read at (F.Command c next) (reads steps) = reads (record { at = at; command = c; next = next } ∷ steps)
-then_read at (F.Command c next) (wrong r) = wrong r
-then_read at (F.Refused r) rest = wrong r
-then_read at F.End rest = rest
+then_read at (Ok (Some (c, next))) (reads steps) = reads (record { at = at; command = c; next = next } ∷ steps)
+then_read at (Ok (Some (c, next))) (wrong r) = wrong r
+then_read at (Err r) rest = wrong r
+then_read at (Ok None) rest = rest
 
 -- "Any character that belongs to no operand text counts as a letter": behind a letter, digits, points and commas are its operand text
 unfoldable pub read_from : Bool → ℕ → List ℕ → Reading
@@ -39,9 +36,9 @@ unfoldable pub read_of : List ℕ → Reading
 read_of t = read_from false 0 t
 
 -- whether a text reads, or its first wrong place
-abbrev pub verdict : Reading → Checked
-verdict (reads steps) = Fine
-verdict (wrong r) = Wrong r
+abbrev pub verdict : Reading → Result Unit Misread
+verdict (reads steps) = Ok tt
+verdict (wrong r) = Err r
 
-unfoldable pub check_of : List ℕ → Checked
+unfoldable pub check_of : List ℕ → Result Unit Misread
 check_of t = verdict (read_of t)

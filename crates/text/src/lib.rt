@@ -3,20 +3,12 @@
 
 pub mod loops;
 
-ghost use Rattle.std.specs.Prelude.{◌≡◌, length, ◌<◌};
+ghost use Rattle.std.specs.Prelude.{◌≡◌};
 ghost use Rattle.text.specs.Text.{check_of};
-ghost use Rattle.text.specs.Data.{Squeezed, KeptByte, asked_of, report, addressed, string, string_of, single_of, control_of, data_of};
+ghost use Rattle.text.specs.Data.{Squeezed, asked_of, asking, string, string_of, control_of, data_of};
 
-use command::Found;
 use command::refusal::Misread;
 use operand::Number;
-
-// A text that reads, or its first wrong place.
-#[derive(Clone, Copy)]
-pub enum Checked {
-    Fine,
-    Wrong(Misread),
-}
 
 // Q and ? with their number, and f.
 #[derive(Clone, Copy)]
@@ -36,13 +28,6 @@ pub enum Control {
     Reset,
 }
 
-// The number of a report: 0 where none is written.
-#[derive(Clone, Copy)]
-pub enum Asked {
-    Number(u32),
-    Wrong,
-}
-
 // What data are. A text is their first `size` bytes, to be run or stored.
 #[derive(Clone, Copy)]
 pub enum Data {
@@ -54,38 +39,15 @@ pub enum Data {
     TooLong,
 }
 
-// Whether a text reads from the first command to the last.
-pub fn check(t: &[u8]) -> Checked
+// Whether a text reads from the first command to the last, or its first wrong place.
+pub fn check(t: &[u8]) -> Result<(), Misread>
     ensures { result ≡ check_of t.now }
 {
     let mut at = 0;
-    while at < t.len() {
-        let found = command::command_at(t, at);
-        match found {
-            Found::Command(_, next) => {
-                at = next;
-            }
-            Found::Refused(r) => {
-                return Checked::Wrong(r);
-            }
-            Found::End => {
-                return Checked::Fine;
-            }
-        }
+    while let Some((_, next)) = command::command_at(t, at)? {
+        at = next;
     }
-    Checked::Fine
-}
-
-// A byte behind those kept, unless it is a space; how many are kept then.
-fn keep(t: &mut [u8], kept: usize, b: u8) -> usize
-    requires { kept < length t.old }
-    ensures { KeptByte t.old kept b result t.new }
-{
-    if b == b' ' {
-        return kept;
-    }
-    t[kept] = b;
-    kept + 1
+    Ok(())
 }
 
 // Spaces dropped where they stand; how many bytes are left.
@@ -93,60 +55,40 @@ pub fn squeeze(t: &mut [u8]) -> usize
     ensures { Squeezed t.old result t.new }
 {
     let mut kept = 0;
-    let mut i = 0;
-    while i < t.len() {
+    for i in 0..t.len() {
         let b = t[i];
-        kept = keep(t, kept, b);
-        i += 1;
+        if b == b' ' {
+            continue;
+        }
+        t[kept] = b;
+        kept += 1;
     }
     kept
 }
 
-// The number of a report.
-fn number_asked(n: Number) -> Asked
+// The number of a report, 0 where none is written.
+#[tactic(auto, unfolding(crate::specs::Data::asked_of))]
+fn number_asked(n: Number) -> Option<u32>
     ensures { result ≡ asked_of n }
 {
     match n {
-        Number::Absent => Asked::Number(0),
+        Number::Absent => Some(0),
         Number::Is {
             thousandths,
-            decimals,
-        } => {
-            if decimals == 0 {
-                return Asked::Number(thousandths / 1000);
-            }
-            Asked::Wrong
-        }
-        Number::Wrong(_) => Asked::Wrong,
+            decimals: 0,
+        } => Some(thousandths / 1000),
+        _ => None,
     }
 }
 
-fn query(n: Asked) -> Data
-    ensures { result ≡ report Question.Query n }
+// A report, if what stands behind its letter is right.
+fn ask(question: Option<Question>) -> Data
+    ensures { result ≡ asking question }
 {
-    match n {
-        Asked::Number(n) => Data::Report(Question::Query(n)),
-        Asked::Wrong => Data::WrongReport,
+    match question {
+        Some(question) => Data::Report(question),
+        None => Data::WrongReport,
     }
-}
-
-fn ask_value(n: Asked) -> Data
-    ensures { result ≡ report Question.Value n }
-{
-    match n {
-        Asked::Number(n) => Data::Report(Question::Value(n)),
-        Asked::Wrong => Data::WrongReport,
-    }
-}
-
-// f, with what stands behind it.
-fn ask_address(t: &[u8]) -> Data
-    ensures { result ≡ addressed t.now }
-{
-    if t.len() == 0 {
-        return Data::Report(Question::Address);
-    }
-    Data::WrongReport
 }
 
 // A string of so many bytes, if its text reads.
@@ -154,8 +96,8 @@ fn if_it_reads(t: &[u8], run: bool) -> Data
     ensures { result ≡ string t.now run (check_of t.now) }
 {
     match check(t) {
-        Checked::Fine => Data::Text { size: t.len(), run },
-        Checked::Wrong(r) => Data::Wrong(r),
+        Ok(()) => Data::Text { size: t.len(), run },
+        Err(r) => Data::Wrong(r),
     }
 }
 
@@ -163,61 +105,41 @@ fn if_it_reads(t: &[u8], run: bool) -> Data
 fn read_string(t: &[u8]) -> Data
     ensures { result ≡ string_of t.now }
 {
-    let n = t.len();
-    if n == 0 {
+    let Some((last, text)) = t.split_last() else {
         return if_it_reads(t, false);
-    }
-    let last = n - 1;
-    if t[last] == b'R' {
-        return if_it_reads(&t[..last], true);
+    };
+    if *last == b'R' {
+        return if_it_reads(text, true);
     }
     if_it_reads(t, false)
 }
 
-// The control that a byte is by itself, or a string.
-fn read_single(b: u8, t: &[u8]) -> Data
-    ensures { result ≡ single_of b t.now }
+// A control, or a string.
+#[tactic(auto, unfolding(crate::specs::Data::control_of))]
+fn read_control(t: &[u8]) -> Data
+    ensures { result ≡ control_of t.now }
 {
-    match b {
-        b'R' => Data::Control(Control::Run),
-        b'T' => Data::Control(Control::Stop),
-        b'X' => Data::Control(Control::Again),
-        b'C' => Data::Control(Control::Clear),
+    match t {
+        [b'R'] => Data::Control(Control::Run),
+        [b'T'] => Data::Control(Control::Stop),
+        [b'X'] => Data::Control(Control::Again),
+        [b'C'] => Data::Control(Control::Clear),
+        [b'!', b'R'] => Data::Control(Control::Reset),
         _ => read_string(t),
     }
 }
 
-// A control, or a string.
-fn read_control(t: &[u8]) -> Data
-    ensures { result ≡ control_of t.now }
-{
-    if t.len() == 1 {
-        return read_single(t[0], t);
-    }
-    if t.len() != 2 {
-        return read_string(t);
-    }
-    if t[0] != b'!' {
-        return read_string(t);
-    }
-    if t[1] != b'R' {
-        return read_string(t);
-    }
-    Data::Control(Control::Reset)
-}
-
 // What data without spaces are.
+#[tactic(auto, unfolding(crate::specs::Data::data_of))]
 pub fn read(t: &[u8]) -> Data
     ensures { result ≡ data_of t.now }
 {
-    if t.len() == 0 {
-        return Data::Report(Question::Query(0));
-    }
-    let b = t[0];
-    match b {
-        b'Q' => query(number_asked(operand::one(&t[1..]))),
-        b'?' => ask_value(number_asked(operand::one(&t[1..]))),
-        b'f' => ask_address(&t[1..]),
+    match t {
+        [] => Data::Report(Question::Query(0)),
+        [b'Q', rest @ ..] => ask(number_asked(operand::one(rest)).map(Question::Query)),
+        [b'?', rest @ ..] => ask(number_asked(operand::one(rest)).map(Question::Value)),
+        [b'f'] => Data::Report(Question::Address),
+        [b'f', ..] => Data::WrongReport,
         _ => read_control(t),
     }
 }

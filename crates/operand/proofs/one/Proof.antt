@@ -18,7 +18,7 @@ use Rattle.operand.specs.Text.{run}
 use Rattle.operand.specs.Begins.{longest, follows}
 use Rattle.operand.specs.Number.{digits, followed_of, number_of}
 use Rattle.operand.specs.Steps.{Spelt}
-use Rattle.operand.proofs.Runs.{run_digits, front, behind, short, counted}
+use Rattle.operand.proofs.Runs.{counted_run, run_digits, front, behind, short, counted}
 use Rattle.operand.proofs.Spelling.{number_some}
 use Rattle.operand.proofs.Counting.{no_digit_is_read, six_digits_are_read, digits_and_more_are_read}
 use Rattle.operand.proofs.one.Statement.{statement}
@@ -64,7 +64,7 @@ module _ (n : ℕ) (t : List ℕ) (e : n ≡ length (run Digit t)) where
   million : (v : ℕ) → n ≤ 6 → Spelt (take n t) v → v < 1000000
   million v h s = omega (arith, s.small, pow-le-pow_right {n = 10} (lit< tt) {j = 6} (few h))
 
-ruleset laws = (rules, short, counted, absent, all, few, none, many, fine, million)
+ruleset laws = (rules, counted_run, short, counted, absent, all, few, none, many, fine, million)
 
 pub one_spec : {M : Type 1} → statement M
 one_spec =

@@ -1,9 +1,0 @@
-use borrow.Author.Rules.{rules}
-use Rattle.command.proofs.Making.{one_number}
-use Rattle.command.proofs.move_by.Statement.{statement}
-use Rattle.command.proofs.move_by.Tie as tie
-
-ruleset laws = (rules, one_number)
-
-pub move_by_spec : {M : Type 1} → statement M
-move_by_spec = tie.close (tie.spec (λ c. search laws) (λ c. search laws) (λ c. search laws) (λ c. search laws))

@@ -1,9 +1,0 @@
-use borrow.Author.Rules.{rules}
-use Rattle.image.proofs.Rows.{up_to, beyond}
-use Rattle.image.proofs.numbers.byte_up_to.Statement.{statement}
-use Rattle.image.proofs.numbers.byte_up_to.Tie as tie
-
-ruleset laws = (rules, up_to, beyond)
-
-pub byte_up_to_spec : {M : Type 1} → statement M
-byte_up_to_spec = tie.close (tie.spec (λ c. search laws) (λ c. search laws))

@@ -1,0 +1,5 @@
+use Rattle.reports.proofs.Telling.{rate_least}
+use Rattle.reports.proofs.value.Goals as goal
+
+pub volume-requires : goal.volume-requires
+volume-requires c = (c.requires.plunger, rate_least c.args.b c.requires)

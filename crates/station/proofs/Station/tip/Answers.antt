@@ -1,0 +1,8 @@
+use Rattle.std.proofs.Common.{rules}
+use Rattle.station.proofs.Serving.{sensed_so}
+use Rattle.station.proofs.Station.tip.Goals as goal
+
+ruleset laws = (rules, sensed_so)
+
+pub returns : goal.returns
+returns c = search laws
