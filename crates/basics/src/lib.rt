@@ -14,6 +14,7 @@ pub fn is_digit(b: u8) -> bool
 }
 
 // All of `bytes` into the buffer from `at` on, and how many they are; nothing where there is no room for them.
+// A place beside the buffer, and no cursor that holds both: the memory is lent, and where an answer goes on is all that is kept of it.
 pub fn lay(bytes: &[u8], buf: &mut [u8], at: usize) -> Option<usize>
     ensures { Laid bytes.now at buf.old result buf.new }
 {

@@ -58,6 +58,7 @@ pub struct Loops {
 }
 
 // The next command's place, the text's length, the last error, and the column of what was misread, 0 if nothing was.
+// Both are 01's numbers and no enum: reports tell them, and a host in C keeps them so.
 #[derive(Clone, Copy)]
 pub struct Course {
     pub at: usize,

@@ -16,51 +16,28 @@ fn hear(start: Controller, bytes: &[u8], buf: &mut [u8]) -> Controller
     ensures { Valid result }
 {
     let mut c = start;
-    let mut rounds = 0u32;
-    while rounds < 4000 {
-        let mut i = 0;
-        while i < bytes.len() {
-            let b = bytes[i];
-            i += 1;
-            c = c.byte(b, buf).controller;
+    for _ in 0..4000 {
+        for b in bytes {
+            c = c.byte(*b, buf).controller;
         }
-        rounds += 1;
     }
     c
 }
 
-fn in_dt(dt: Dt) -> u64 {
-    match dt {
-        Dt::Outside => 0,
-        Dt::Started => 0,
-        Dt::Collecting(_, n) => n as u64,
-    }
-}
-
-fn in_oem(oem: Oem) -> u64 {
-    match oem {
-        Oem::Outside => 0,
-        Oem::Started => 0,
-        Oem::Addressed(_) => 0,
-        Oem::Collecting(_, n) => n as u64,
-        Oem::Ended(_, n) => n as u64,
-    }
-}
-
 // How many data bytes are in hand.
-fn in_hand(line: Line) -> u64 {
+fn in_hand(line: Line) -> u32 {
     match line {
-        Line::Dt(dt) => in_dt(dt),
-        Line::Oem(oem) => in_oem(oem),
+        Line::Dt(Dt::Collecting(_, n)) | Line::Oem(Oem::Collecting(_, n) | Oem::Ended(_, n)) => n,
+        _ => 0,
     }
 }
 
 // DT where the input begins with `/`, so that no compiler knows which it is.
 fn framing_by(first: u8) -> Framing {
-    if first == b'/' {
-        return Framing::Dt;
+    match first {
+        b'/' => Framing::Dt,
+        _ => Framing::Oem,
     }
-    Framing::Oem
 }
 
 fn main(rt: HostRuntime) -> io::Result<()> {

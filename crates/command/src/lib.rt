@@ -143,6 +143,7 @@ fn accept(k: usize, range: Range, usual: u32, n: Number) -> Option<u32>
 }
 
 // A number without a point.
+// `whole`, `speed` and `detail` each hand one table of 01 to `accept`, by an index of its own; a trait over the three would be longer than they are.
 #[tactic(auto, unfolding(crate::specs::Table::whole_of))]
 fn whole(of: Quantity, n: Number) -> Option<u32>
     ensures { result ≡ whole_of of n }
@@ -303,7 +304,7 @@ fn opened(t: &[u8]) -> Result<Command, Malformed>
     Err(Malformed::WrongOperand(0))
 }
 
-// What a letter and its operand text make.
+// What a letter and its operand text make: one match, since a closure for each letter would have to be named here too.
 #[tactic(auto, unfolding(crate::specs::Table::command_of, crate::specs::Table::made))]
 fn form(letter: Letter, t: &[u8]) -> Result<Command, Malformed>
     ensures { result ≡ command_of letter t.now }

@@ -6,83 +6,50 @@ use command::{Command, Found, Way};
 use settings::{Aspect, Pace, Volume};
 use std::io::{self, Read, Stdout};
 
-fn way(out: Stdout, to: Way) -> io::Result<()> {
+fn way(to: Way) -> &'static str {
     match to {
-        Way::To => print!(out; "move to "),
-        Way::Up => print!(out; "move up by "),
-        Way::Down => print!(out; "move down by "),
+        Way::To => "to",
+        Way::Up => "up by",
+        Way::Down => "down by",
     }
 }
 
-fn volume(out: Stdout, v: Volume) -> io::Result<()> {
-    match v {
-        Volume::Increments(n) => print!(out; "{n} increments"),
-        Volume::Nanolitres(n) => print!(out; "{n} nL"),
-    }
-}
-
-fn pace(out: Stdout, of: Pace) -> io::Result<()> {
+fn pace(of: Pace) -> &'static str {
     match of {
-        Pace::Top => print!(out; "top speed "),
-        Pace::Start => print!(out; "start speed "),
-        Pace::Cutoff => print!(out; "cutoff speed "),
+        Pace::Top => "top",
+        Pace::Start => "start",
+        Pace::Cutoff => "cutoff",
     }
 }
 
-fn compensate(out: Stdout, by: u16, down: bool) -> io::Result<()> {
-    if down {
-        return print!(out; "compensate {by} down");
-    }
-    print!(out; "compensate {by} up")
-}
-
-fn aspect(out: Stdout, of: Aspect) -> io::Result<()> {
+fn aspect(of: Aspect) -> &'static str {
     match of {
-        Aspect::Threshold => print!(out; "p0"),
-        Aspect::Duration => print!(out; "p1"),
-        Aspect::Place => print!(out; "p2"),
-        Aspect::Speed => print!(out; "p3"),
-        Aspect::Most => print!(out; "p4"),
-        Aspect::Mode => print!(out; "p5"),
-        Aspect::Interval => print!(out; "p6"),
+        Aspect::Threshold => "p0",
+        Aspect::Duration => "p1",
+        Aspect::Place => "p2",
+        Aspect::Speed => "p3",
+        Aspect::Most => "p4",
+        Aspect::Mode => "p5",
+        Aspect::Interval => "p6",
     }
-}
-
-fn detect(out: Stdout, here: bool) -> io::Result<()> {
-    if here {
-        return print!(out; "search from here");
-    }
-    print!(out; "search from p2")
-}
-
-fn eject(out: Stdout, bare: bool) -> io::Result<()> {
-    if bare {
-        return print!(out; "eject, with a tip or without");
-    }
-    print!(out; "eject the tip")
 }
 
 fn command(out: Stdout, c: Command) -> io::Result<()> {
     match c {
         Command::Initialise(speed) => print!(out; "initialise at {speed} increments a second"),
-        Command::Move(to, v) => {
-            way(out, to)?;
-            volume(out, v)
-        }
-        Command::Speed(of, tenths) => {
-            pace(out, of)?;
-            print!(out; "{tenths} tenths")
-        }
+        Command::Move(to, Volume::Increments(n)) => print!(out; "move {} {n} increments", way(to)),
+        Command::Move(to, Volume::Nanolitres(n)) => print!(out; "move {} {n} nL", way(to)),
+        Command::Speed(of, tenths) => print!(out; "{} speed {tenths} tenths", pace(of)),
         Command::Slopes(up, down) => print!(out; "slopes {up} and {down}"),
         Command::Backlash(n) => print!(out; "backlash {n}"),
-        Command::Compensate(by, down) => compensate(out, by, down),
+        Command::Compensate(by, true) => print!(out; "compensate {by} down"),
+        Command::Compensate(by, false) => print!(out; "compensate {by} up"),
         Command::Delay(ms) => print!(out; "delay {ms} ms"),
-        Command::Set(of, n) => {
-            aspect(out, of)?;
-            print!(out; " to {n}")
-        }
-        Command::Detect(here) => detect(out, here),
-        Command::Eject(bare) => eject(out, bare),
+        Command::Set(of, n) => print!(out; "{} to {n}", aspect(of)),
+        Command::Detect(true) => print!(out; "search from here"),
+        Command::Detect(false) => print!(out; "search from p2"),
+        Command::Eject(true) => print!(out; "eject, with a tip or without"),
+        Command::Eject(false) => print!(out; "eject the tip"),
         Command::Open => print!(out; "open a loop"),
         Command::Close(passes) => print!(out; "close a loop of {passes} passes"),
     }
@@ -90,13 +57,8 @@ fn command(out: Stdout, c: Command) -> io::Result<()> {
 
 fn at(r: Misread) -> usize {
     match r {
-        Misread::Letter(place) => place,
-        Misread::Operand { place, read: _ } => place,
+        Misread::Letter(place) | Misread::Operand { place, .. } => place,
     }
-}
-
-fn refused(out: Stdout, r: Misread) -> io::Result<()> {
-    print!(out; "refused {} at {}", r.number(), at(r))
 }
 
 fn found(out: Stdout, f: Found) -> io::Result<()> {
@@ -105,8 +67,8 @@ fn found(out: Stdout, f: Found) -> io::Result<()> {
             command(out, c)?;
             print!(out; ", next {next}")
         }
-        Err(r) => refused(out, r),
         Ok(None) => print!(out; "nothing"),
+        Err(r) => print!(out; "refused {} at {}", r.number(), at(r)),
     }
 }
 
@@ -117,6 +79,7 @@ fn line(out: Stdout, t: &[u8]) -> io::Result<()> {
     println!(out)
 }
 
+// A `split` at each LF would give a line more, behind the last of them.
 fn lines(out: Stdout, t: &[u8]) -> io::Result<()> {
     let mut from = 0;
     while from < t.len() {

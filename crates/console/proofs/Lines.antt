@@ -4,166 +4,71 @@ use mathlib.Core.Bool.{Bool, true, false, false≢true}
 use mathlib.Core.List.{List, [], ◌∷◌, ◌++◌, append-nil, append_assoc}
 use Prim.Native.Nat.{ℕ, suc, ◌+◌, ◌-◌, ◌*◌, ◌≤◌, ◌<◌}
 use native.Mathlib.Omega.{arith}
-use mir.Syntax.{w64}
-use mir.Val.{Fits}
 use borrow.Author.Tests.{leb-true, leb-false, ltb-false, lt-ltb}
 use lib.Dec.{leb, ltb, eqb}
 use lib.ListN.{length, take, drop, length-append, length-take, length-drop, drop_of_length-le}
-use lib.Seq.{take_at, drop-drop, length-take-le}
+use lib.Seq.{take_all, take-append-le, drop-drop, length-take-le}
 use Rattle.std.specs.Prelude.{if◌then◌else◌, None, Option, Some}
-use Rattle.basics.specs.Lay.{over, fits, laid_in, Laid}
 use Rattle.basics.proofs.Choice.{by}
-use Rattle.basics.proofs.Lists.{front_counted}
-use Rattle.basics.proofs.Over.{length_over}
 use Rattle.basics.proofs.Rules.{by_order}
 use Rattle.desk.specs.Desk.{line_of, LineEnd}
 use Rattle.desk.proofs.Lines.{long}
 use Rattle.desk.specs.declared.Asked.TheVariants.{Wrong}
 use Rattle.station.specs.declared.Station.{Station}
-use Rattle.station.specs.declared.Replied.{Replied}
-use Rattle.station.specs.Serve.{Served, did_of, served_of, Replies}
+use Rattle.station.specs.Serve.{Served, did_of, served_of}
 use Rattle.console.specs.declared.Memory.{Memory}
-use Rattle.console.specs.Eaten.{Program, program, longer, ended_line, eaten_of, Keeps, Gathers, memory, Sound, Stands, Eats, Finishes}
+use Rattle.console.specs.Eaten.{Program, program, longer, ended_line, eaten_of, begun, memory, Sound, Stands, Eats, Finishes}
 
--- bytes laid behind the first n are what stands there, and then they
-take_over : (xs : List ℕ) (n : ℕ) (line : List ℕ) → n + length xs ≤ length line → take (n + length xs) (over xs n line) ≡ take n line ++ xs
-unfolding over
-take_over xs n line h =
-    let l = length-take-le n line (omega arith) in
-    take_at (take n line ++ xs) (drop (n + length xs) line) (n + length xs) (length-append (take n line) xs ∙ omega arith)
+-- more bytes behind what is kept
+pub kept_more : (kept more : List ℕ) → begun (begun kept ++ more) ≡ begun (kept ++ more)
+kept_more kept more = go (leb (length kept) 401) refl
+  where
+    go : (x : Bool) → leb (length kept) 401 ≡ x → begun (begun kept ++ more) ≡ begun (kept ++ more)
+    go true e = ap (λ (t : List ℕ). begun (t ++ more)) (take_all 401 kept (leb-true (length kept) 401 e))
+    go false e =
+        let over_401 = leb-false (length kept) 401 e in
+        let all = length-take-le 401 kept (omega arith) in
+        take-append-le 401 (begun kept) more (omega arith) ∙ take_all 401 (begun kept) (omega arith) ∙ sym (take-append-le 401 kept more (omega arith))
 
--- which way laying goes
-abbrev bytes_in : Option ℕ → ℕ
-bytes_in (Some m) = m
-bytes_in None = 0
-
-abbrev is_bytes : Option ℕ → Bool
-is_bytes (Some m) = true
-is_bytes None = false
-
-record Fitted (xs : List ℕ) (n : ℕ) (line : List ℕ) (m : ℕ) (after : List ℕ) : Type 0 where
-  room : n + length xs ≤ length line
-  size : m ≡ length xs
-  left : after ≡ over xs n line
-
-record Unfitted (xs : List ℕ) (n : ℕ) (line : List ℕ) (after : List ℕ) : Type 0 where
-  none : length line < n + length xs
-  left : after ≡ line
-
-module _ (xs : List ℕ) (n : ℕ) (line : List ℕ) (put : Option ℕ) (after : List ℕ) (l : Laid xs n line put after) where
-  fitted : (m : ℕ) → put ≡ Some m → Fitted xs n line m after
-  unfolding fits laid_in
-  fitted m e = go (leb (n + length xs) (length line)) refl (sym e ∙ l.said) l.left
-    where
-      go : (x : Bool) → leb (n + length xs) (length line) ≡ x → Some m ≡ (if x then Some (length xs) else None) → after ≡ (if x then over xs n line else line) → Fitted xs n line m after
-      go true q p r = record { room = leb-true (n + length xs) (length line) q; size = ap bytes_in p; left = r }
-      go false q p r = absurd (false≢true (sym (ap is_bytes p)))
-
-  unfitted : put ≡ None → Unfitted xs n line after
-  unfolding fits laid_in
-  unfitted e = go (leb (n + length xs) (length line)) refl (sym e ∙ l.said) l.left
-    where
-      go : (x : Bool) → leb (n + length xs) (length line) ≡ x → None ≡ (if x then Some (length xs) else None) → after ≡ (if x then over xs n line else line) → Unfitted xs n line after
-      go true q p r = absurd (false≢true (ap is_bytes p))
-      go false q p r = record { none = leb-false (n + length xs) (length line) q; left = r }
-
-  module _ (w : length line ≡ 401) where
-    pub sum_fits : (m : ℕ) → put ≡ Some m → Fits w64 (n + m)
-    sum_fits m e = let f = fitted m e in omega (arith, f.room, f.size)
-
-    pub more_kept : (m : ℕ) → put ≡ Some m → Gathers xs n line (n + m) after
-    more_kept m e =
-        let f = fitted m e in
-        let room = f.room in
-        let size = f.size in
-        record {
-          long = rw f.left (length_over xs n line room ∙ w);
-          within = omega arith;
-          few = omega arith;
-          keeps = λ kept k.
-              let count = k.count in
-              let sum = length-append kept xs in
-              record {
-                count = omega arith;
-                bytes = λ h. rw (f.left, size) (take_over xs n line room ∙ ap (λ (t : List ℕ). t ++ xs) (k.bytes (omega arith)));
-              };
-        }
-
-    pub too_long : n ≤ 401 → put ≡ None → Gathers xs n line 401 after
-    too_long b e =
-        let u = unfitted e in
-        let none = u.none in
-        record {
-          long = rw u.left w;
-          within = omega arith;
-          few = omega arith;
-          keeps = λ kept k.
-              let count = k.count in
-              let sum = length-append kept xs in
-              record { count = omega arith; bytes = λ h. absurd (omega arith) };
-        }
-
--- a line in its array does and prints what the line itself does: one over 400 is wrong either way
+-- what is kept of a line does and prints what the line itself does: one over 400 is wrong either way
 over_long : (t : List ℕ) (s : Station) → 400 < length t → served_of t s ≡ did_of Wrong [] s
 unfolding served_of did_of
 over_long t s h = rw (sym (long s.desk t h))
 
-alike : (s : Station) (kept : List ℕ) (n : ℕ) (line : List ℕ) → length line ≡ 401 → Keeps kept n line → served_of (take n line) s ≡ served_of kept s
-alike s kept n line w k = go (leb (length kept) 400) refl
+alike : (s : Station) (kept : List ℕ) → served_of (begun kept) s ≡ served_of kept s
+alike s kept = go (leb (length kept) 400) refl
   where
-    go : (x : Bool) → leb (length kept) 400 ≡ x → served_of (take n line) s ≡ served_of kept s
-    go true e = ap (λ (t : List ℕ). served_of t s) (k.bytes (leb-true (length kept) 400 e))
+    go : (x : Bool) → leb (length kept) 400 ≡ x → served_of (begun kept) s ≡ served_of kept s
+    go true e = let up_to_400 = leb-true (length kept) 400 e in ap (λ (t : List ℕ). served_of t s) (take_all 401 kept (omega arith))
     go false e =
         let over_400 = leb-false (length kept) 400 e in
-        let count = k.count in
-        let all = length-take-le n line (omega arith) in
-        over_long (take n line) s (omega arith) ∙ sym (over_long kept s over_400)
+        let all = length-take-le 401 kept (omega arith) in
+        over_long (begun kept) s (omega arith) ∙ sym (over_long kept s over_400)
 
-none_kept : (line : List ℕ) → Keeps [] 0 line
-none_kept line = record { count = refl; bytes = λ h. refl }
-
--- the part of the line's array that is handed on
-module _ (s : Station) (n : ℕ) (line : List ℕ) (m : ℕ) (out : List ℕ) (a : Sound (memory s n line m out)) where
-  pub line_within : n ≤ length line
-  line_within = let w : length line ≡ 401 = a.long in let h : n ≤ 401 = a.within in omega arith
-
-  pub line_counted : n ≡ length (take n line)
-  line_counted = front_counted n line line_within
-
-  pub answer_fits : m + 80 * (n + 1) ≤ 196608 → m + 80 * (length (take n line) + 1) ≤ length out
-  answer_fits h = let size : length out ≡ 196608 = a.size in let c = line_counted in omega arith
-
-module _ (s : Station) (line : List ℕ) (n : ℕ) (ended : Bool) (out : List ℕ) (at : ℕ) (a : Sound (memory s n line at out)) where
+module _ (s : Station) (line out : List ℕ) (ended : Bool) (a : Sound (memory s line out)) where
   pub line_served :
-      (r : Replied) (after : List ℕ) → at + 80 * (n + 1) ≤ 196608 → ended ≡ true → Replies (80 * (length (take n line) + 1)) (served_of (take n line) s) at out r after →
-      Finishes ended (memory s n line at out) (memory r.station 0 line r.end after)
-  line_served r after h e q =
-      let size : length out ≡ 196608 = a.size in
-      let counted = line_counted s n line at out a in
-      let text = (served_of (take n line) s).text in
-      let ends = q.prints.ends in
-      let short = q.prints.short in
+      (given : List ℕ) (k : Station) (after : List ℕ) → given ≡ line → ended ≡ true → k ≡ (served_of given s).station → after ≡ out ++ (served_of given s).text →
+      length (served_of given s).text ≤ 80 * (length given + 1) → Finishes ended (memory s line out) (memory k [] after)
+  line_served given k after g e given_is given_printed given_short =
+      let text = (served_of line s).text in
+      let is = rw g at given_is in
+      let printed = rw g at given_printed in
+      let short = rw g at given_short in
       record {
-        room = let f : r.end + 80 * 0 ≤ at + 80 * (n + 1) = omega arith in f;
+        room = rw printed (let sum = length-append out text in let f : length (out ++ text) + 80 * 0 ≤ length out + 80 * (length line + 1) = omega arith in f);
         eats = record {
-          sound = record {
-            manned = q.again;
-            long = a.long;
-            within = omega arith;
-            size = q.prints.long ∙ size;
-            filled = let f : r.end ≤ 196608 = omega arith in f;
-          };
+          sound = omega arith;
           stands = λ p w. rw e (
-              let same : served_of (take n line) s ≡ served_of p.kept p.station = alike s p.kept n line a.long w.keeps ∙ ap (served_of p.kept) w.station in
+              let same : served_of line s ≡ served_of p.kept p.station = ap (λ (t : List ℕ). served_of t s) w.keeps ∙ alike s p.kept ∙ ap (served_of p.kept) w.station in
               record {
-                station = q.is ∙ ap (λ (x : Served). x.station) same;
-                keeps = none_kept line;
-                printed = rw (ends, q.prints.left) (take_over text at out (omega arith)) ∙ ap (λ (t : List ℕ). t ++ text) w.printed ∙ ap (λ (x : Served). p.printed ++ x.text) same;
+                station = is ∙ ap (λ (x : Served). x.station) same;
+                keeps = refl;
+                printed = printed ∙ ap (λ (t : List ℕ). t ++ text) w.printed ∙ ap (λ (x : Served). p.printed ++ x.text) same;
               });
         };
       }
 
-  pub line_goes_on : ended ≡ false → Finishes ended (memory s n line at out) (memory s n line at out)
+  pub line_goes_on : ended ≡ false → Finishes ended (memory s line out) (memory s line out)
   line_goes_on e = record { room = omega arith; eats = record { sound = a; stands = λ p q. rw e q } }
 
 -- a text is its first line, and then the next lines or nothing
@@ -206,12 +111,12 @@ pub record Way (s : Program) (chunk : List ℕ) (from : ℕ) (a : Memory) : Type
 
 pub record Eating (start : Memory) (chunk : List ℕ) (from : ℕ) (a : Memory) : Type 0 where
   pub sound : Sound a
-  pub room : a.m + 80 * a.n ≤ 80 * (start.n + from)
+  pub room : length a.out + 80 * length a.line ≤ 80 * (length start.line + from)
   pub way : (s : Program) → Stands s start → Way s chunk from a
 
 module _ (start : Memory) (chunk : List ℕ) where
-  pub begins : Sound start → start.m ≡ 0 → Eating start chunk 0 start
-  begins a e = record { sound = a; room = omega arith; way = λ s q. record { here = s; stands = q; same = refl } }
+  pub begins : Sound start → start.out ≡ [] → Eating start chunk 0 start
+  begins a e = record { sound = a; room = let n : length start.out ≡ 0 = ap (λ (t : List ℕ). length t) e in omega arith; way = λ s q. record { here = s; stands = q; same = refl } }
 
   module _ (from : ℕ) (a : Memory) (r : Eating start chunk from a) where
     pub chunk_over : length chunk ≤ from → Eats (eaten_of chunk) start a
@@ -224,14 +129,8 @@ module _ (start : Memory) (chunk : List ℕ) where
     }
 
     -- a line begins, and has room for what it prints
-    pub kept_long : length a.line ≡ 401
-    kept_long = r.sound.long
-
-    pub kept_within : a.n ≤ 401
-    kept_within = r.sound.within
-
-    pub still_sound : (more : List ℕ) (m : ℕ) (gathered : List ℕ) → Gathers more a.n a.line m gathered → Sound (memory a.station m gathered a.m a.out)
-    still_sound more m gathered g = record { manned = r.sound.manned; long = g.long; within = g.within; size = r.sound.size; filled = r.sound.filled }
+    pub still_sound : (more line : List ℕ) → line ≡ begun (a.line ++ more) → Sound (memory a.station line a.out)
+    still_sound more line g = let few = length-take 401 (a.line ++ more) in rw g (omega arith)
 
     -- the line at this place of the chunk, and behind its end
     module _ (h : from < length chunk) (end : ℕ) (e : LineEnd chunk from end) where
@@ -255,32 +154,35 @@ module _ (start : Memory) (chunk : List ℕ) where
       past_line here true q = rw behind
       past_line here false q = let over = ltb-false end (length chunk) q in rw (drop_of_length-le chunk {i = end + 1} (omega arith))
 
-      pub line_room : (m : ℕ) (gathered : List ℕ) → start.n ≤ 401 → length chunk ≤ 2048 → Gathers (take (end - from) (drop from chunk)) a.n a.line m gathered → a.m + 80 * (m + 1) ≤ 196608
-      line_room m gathered k l g =
-          let u : a.m + 80 * a.n ≤ 80 * (start.n + from) = r.room in
-          let few = g.few in
+      -- no more are kept than come along
+      no_more : (line : List ℕ) → line ≡ begun (a.line ++ take (end - from) rest) → length line ≤ length a.line + length (take (end - from) rest)
+      no_more line g = rw g (omega (arith, length-take 401 (a.line ++ take (end - from) rest), length-append a.line (take (end - from) rest)))
+
+      pub line_room : (line : List ℕ) → length start.line ≤ 401 → length chunk ≤ 2048 → line ≡ begun (a.line ++ take (end - from) rest) → length a.out + 80 * (length line + 1) ≤ 196608
+      line_room line k l g =
+          let u : length a.out + 80 * length a.line ≤ 80 * (length start.line + from) = r.room in
+          let few = no_more line g in
           let part = length-take (end - from) (drop from chunk) in
           let b = e.behind in
           let i = e.inside in
           omega arith
 
-      pub again : (m : ℕ) (gathered : List ℕ) (b : Bool) (k : Memory) →
-          Gathers (take (end - from) (drop from chunk)) a.n a.line m gathered → b ≡ ltb end (length chunk) → Finishes b (memory a.station m gathered a.m a.out) k →
-          Eating start chunk (end + 1) k
-      again m gathered b k g q f = record {
+      pub again : (line : List ℕ) (b : Bool) (k : Memory) →
+          line ≡ begun (a.line ++ take (end - from) rest) → b ≡ ltb end (length chunk) → Finishes b (memory a.station line a.out) k → Eating start chunk (end + 1) k
+      again line b k g q f = record {
         sound = f.eats.sound;
         room =
-            let u : a.m + 80 * a.n ≤ 80 * (start.n + from) = r.room in
-            let v : k.m + 80 * k.n ≤ a.m + 80 * (m + 1) = f.room in
-            let few = g.few in
+            let u : length a.out + 80 * length a.line ≤ 80 * (length start.line + from) = r.room in
+            let v : length k.out + 80 * length k.line ≤ length a.out + 80 * (length line + 1) = f.room in
+            let few = no_more line g in
             let part = length-take (end - from) (drop from chunk) in
             let y = e.behind in
-            let w : k.m + 80 * k.n ≤ 80 * (start.n + (end + 1)) = omega arith in
+            let w : length k.out + 80 * length k.line ≤ 80 * (length start.line + (end + 1)) = omega arith in
             w;
         way = λ s h.
             let w = r.way s h in
-            let whole : Stands (longer (line_of rest) w.here) (memory a.station m gathered a.m a.out)
-            = record { station = w.stands.station; keeps = rw the_line at (g.keeps w.here.kept w.stands.keeps); printed = w.stands.printed } in
+            let keeps : line ≡ begun (w.here.kept ++ line_of rest) = g ∙ rw (the_line, w.stands.keeps) (kept_more w.here.kept (line_of rest)) in
+            let whole : Stands (longer (line_of rest) w.here) (memory a.station line a.out) = record { station = w.stands.station; keeps = keeps; printed = w.stands.printed } in
             record {
               here = ended_line b (longer (line_of rest) w.here);
               stands = f.eats.stands (longer (line_of rest) w.here) whole;

@@ -10,15 +10,15 @@ use lib.ListN.{length, take, length-append, length-take}
 use Rattle.std.proofs.Common.{◌<◌, min, Option, Some, None, Result, Ok, Err, is_ok, OnOk, IfSome}
 use Rattle.std.proofs.lemmas.List.{take_min}
 use Rattle.std.specs.Io.KnownBytes.{Keeps as KeepsBytes, Appends, Consumes, IsAtEnd, ReadConsumes}
+use Rattle.std.specs.Io.{ReadsAtMost}
 use Rattle.std.specs.Prelude.{if◌then◌else◌}
-use Rattle.basics.proofs.Lists.{front_counted}
 use Rattle.basics.proofs.Rules.{by_order}
 use Rattle.desk.specs.declared.Desk.{Desk}
 use Rattle.station.specs.declared.Station.{Station}
 use Rattle.console.specs.declared.End.{End}
-use Rattle.station.specs.Serve.{served_of, Starts}
+use Rattle.station.specs.Serve.{at_start, served_of}
 use Rattle.console.specs.declared.Memory.{Memory}
-use Rattle.console.specs.Eaten.{Program, program, longer, ended_line, eaten_of, last_of, opened, program_of, brought, nothing, read_of, Keeps, memory, Sound, Stands, Eats, Finishes, SomeRead, ends, Ended, Succeeded}
+use Rattle.console.specs.Eaten.{Program, program, longer, ended_line, eaten_of, last_of, opened, program_of, brought, nothing, read_of, begun, memory, Sound, Stands, Eats, Finishes, SomeRead, ends, Ended, Succeeded}
 
 -- Input in any chunks does what it does at once.
 pub in_any_chunks : (xs ys : List ℕ) (s : Program) → eaten_of (xs ++ ys) s ≡ eaten_of ys (eaten_of xs s)
@@ -53,17 +53,17 @@ after_writing t s = ap (λ (p : List ℕ). eaten_of t (program s.station s.kept 
 pub printed_in_any_chunks : (xs ys : List ℕ) (s : Program) → (eaten_of (xs ++ ys) s).printed ≡ (eaten_of xs s).printed ++ (eaten_of ys (written (eaten_of xs s))).printed
 printed_in_any_chunks xs ys s = ap (λ (u : Program). u.printed) (in_any_chunks xs ys s ∙ after_writing ys (eaten_of xs s))
 
--- a line kept is none, or a count of some
-some_kept : (kept : List ℕ) (n : ℕ) (line : List ℕ) → Keeps kept n line → ltb 0 n ≡ ltb 0 (length kept)
-some_kept kept n line h = let c = h.count in by_order 0 n 0 (length kept) (λ k. omega arith) (λ k. omega arith)
+-- of a line that has begun, some is kept
+some_kept : (kept line : List ℕ) → line ≡ begun kept → ltb 0 (length line) ≡ ltb 0 (length kept)
+some_kept kept line h = rw h (let c = length-take 401 kept in by_order 0 (length (begun kept)) 0 (length kept) (λ k. omega arith) (λ k. omega arith))
 
 -- what a read brought, or the input's end
 module _ (bytes : List ℕ) (a b : Memory) (none : Bool) (e : none ≡ nothing bytes) where
-  pub the_end : none ≡ true → (some : Bool) → some ≡ ltb 0 a.n → Finishes some a b → Eats (read_of bytes) a b
+  pub the_end : none ≡ true → (some : Bool) → some ≡ ltb 0 (length a.line) → Finishes some a b → Eats (read_of bytes) a b
   unfolding read_of
   the_end t some q x = record {
     sound = x.eats.sound;
-    stands = λ s h. rw (sym e ∙ t) (rw (q, some_kept s.kept a.n a.line h.keeps) at (x.eats.stands s h));
+    stands = λ s h. rw (sym e ∙ t) (rw (q, some_kept s.kept a.line h.keeps) at (x.eats.stands s h));
   }
 
   pub some_bytes : none ≡ false → Eats (eaten_of bytes) a b → Eats (read_of bytes) a b
@@ -80,10 +80,11 @@ module _ {E : Type 0} (got : Result ℕ E) (chunk : List ℕ) where
   unfolding brought
   brought_none e o = rw o
 
-pub brought_short : {E : Type 0} (got : Result ℕ E) (chunk bytes : List ℕ) → bytes ≡ brought got chunk → length chunk ≡ 2048 → length bytes ≤ 2048
+-- no more than the array that was lent
+pub brought_short : {E : Type 0} (got : Result ℕ E) (chunk bytes part : List ℕ) → ReadsAtMost got part → bytes ≡ brought got chunk → length part ≤ 2048 → length bytes ≤ 2048
 unfolding brought
-brought_short (Ok n) chunk bytes e l = rw e (omega (arith, length-take n chunk))
-brought_short (Err x) chunk bytes e l = rw e (omega arith)
+brought_short (Ok n) chunk bytes part m e l = rw e (omega (arith, length-take n chunk, m))
+brought_short (Err x) chunk bytes part m e l = rw e (omega arith)
 
 -- known bytes, taken from and added to in turn
 consumes_none : (a b : Option (List ℕ)) → KeepsBytes a b → Consumes a b []
@@ -141,21 +142,21 @@ where_ok (Ok x) P b e h q = h
 where_ok (Err x) P b e h q = let f : false ≡ true = sym e ∙ q in cc
 
 -- the program before each read: it has eaten some input, which was read, and written what that prints
-pub record Served (desk : Desk) (rest rest' held held' : Option (List ℕ)) (k : Station) (n : ℕ) (line out : List ℕ) (reads : ℕ) : Type 0 where
-  pub sound : Sound (memory k n line 0 out)
+pub record Served (desk : Desk) (rest rest' held held' : Option (List ℕ)) (k : Station) (line : List ℕ) (reads : ℕ) : Type 0 where
+  pub sound : Sound (memory k line [])
   pub input : List ℕ
   pub counted : reads ≤ length input
-  pub stands : Stands (written (eaten_of input (opened desk))) (memory k n line 0 out)
+  pub stands : Stands (written (eaten_of input (opened desk))) (memory k line [])
   pub consumed : Consumes rest rest' input
   pub added : Appends held held' (eaten_of input (opened desk)).printed
 
-pub opens : (desk : Desk) (rest held : Option (List ℕ)) (k : Station) (line out : List ℕ) → Starts desk k → length line ≡ 401 → length out ≡ 196608 → Served desk rest rest held held k 0 line out 0
+pub opens : (desk : Desk) (rest held : Option (List ℕ)) (k : Station) (line : List ℕ) → k ≡ at_start desk → line ≡ [] → Served desk rest rest held held k line 0
 unfolding eaten_of
-opens desk rest held k line out s w v = record {
-  sound = record { manned = s.manned; long = w; within = omega arith; size = v; filled = omega arith };
+opens desk rest held k line s e = record {
+  sound = rw e (omega arith);
   input = [];
   counted = omega arith;
-  stands = record { station = s.is; keeps = record { count = refl; bytes = λ h. refl }; printed = refl };
+  stands = record { station = s; keeps = e; printed = refl };
   consumed = consumes_none rest rest (keeps_itself rest);
   added = appends_none held;
 }
@@ -173,19 +174,13 @@ not_written true e q = let f : false ≡ true = e in cc
 not_written false e q = cc
 
 module _
-    (desk : Desk) (rest rest' rest″ held held' held″ : Option (List ℕ)) (c k : Station) (n j p : ℕ) (line out line' out' : List ℕ) (over read : Bool) (reads : ℕ)
-    (s : Served desk rest rest' held held' c n line out reads) (x : SomeRead rest' rest″ (memory c n line 0 out) (memory k j line' p out') over read) where
+    (desk : Desk) (rest rest' rest″ held held' held″ : Option (List ℕ)) (c k : Station) (line line' out' : List ℕ) (over read : Bool) (reads : ℕ)
+    (s : Served desk rest rest' held held' c line reads) (x : SomeRead rest' rest″ (memory c line []) (memory k line' out') over read) where
   -- the bench program after the read
-  now_stands : Stands (read_of x.bytes (written (eaten_of s.input (opened desk)))) (memory k j line' p out')
+  now_stands : Stands (read_of x.bytes (written (eaten_of s.input (opened desk)))) (memory k line' out')
   now_stands = x.reads.eats.stands (written (eaten_of s.input (opened desk))) s.stands
 
-  pub printed_within : p ≤ length out'
-  printed_within = let f : p ≤ 196608 = x.reads.eats.sound.filled in let e : length out' ≡ 196608 = x.reads.eats.sound.size in omega arith
-
-  pub printed_counted : p ≡ length (take p out')
-  printed_counted = front_counted p out' printed_within
-
-  eaten_more : over ≡ false → Stands (eaten_of x.bytes (written (eaten_of s.input (opened desk)))) (memory k j line' p out')
+  eaten_more : over ≡ false → Stands (eaten_of x.bytes (written (eaten_of s.input (opened desk)))) (memory k line' out')
   unfolding read_of
   eaten_more e = rw (sym x.reads.last ∙ e) at now_stands
 
@@ -202,12 +197,12 @@ module _
   more_consumed : Consumes rest rest″ (s.input ++ x.bytes)
   more_consumed = consumes_more rest rest' rest″ s.input x.bytes s.consumed x.consumed
 
-  more_added : Appends held' held″ (take p out') → Appends held held″ ((eaten_of s.input (opened desk)).printed ++ take p out')
-  more_added w = appends_more held held' held″ (eaten_of s.input (opened desk)).printed (take p out') s.added w
+  more_added : Appends held' held″ out' → Appends held held″ ((eaten_of s.input (opened desk)).printed ++ out')
+  more_added w = appends_more held held' held″ (eaten_of s.input (opened desk)).printed out' s.added w
 
-  pub goes_on : (wrote : Bool) → (wrote ≡ true → Appends held' held″ (take p out')) → over ≡ false → wrote ≡ true → Served desk rest rest″ held held″ k j line' out' (reads + 1)
+  pub goes_on : (wrote : Bool) → (wrote ≡ true → Appends held' held″ out') → over ≡ false → wrote ≡ true → Served desk rest rest″ held held″ k line' (reads + 1)
   goes_on wrote w o e = let u = eaten_more o in record {
-    sound = let a = x.reads.eats.sound in record { manned = a.manned; long = a.long; within = a.within; size = a.size; filled = omega arith };
+    sound = x.reads.eats.sound;
     input = s.input ++ x.bytes;
     counted = one_more o;
     stands = rw more_input (record { station = u.station; keeps = u.keeps; printed = refl });
@@ -237,17 +232,17 @@ module _
       no_bytes [] h = refl
       no_bytes (b ∷ t) h = absurd (omega arith)
 
-  at_the_end : over ≡ true → Stands (last_of (written (eaten_of s.input (opened desk)))) (memory k j line' p out')
+  at_the_end : over ≡ true → Stands (last_of (written (eaten_of s.input (opened desk)))) (memory k line' out')
   unfolding read_of
   at_the_end o = rw (sym x.reads.last ∙ o) at now_stands
 
   all_consumed : over ≡ true → Consumes rest rest″ s.input
   all_consumed o = rw (none_brought o, append-nil) at more_consumed
 
-  all_added : over ≡ true → Appends held' held″ (take p out') → Appends held held″ (last_of (eaten_of s.input (opened desk))).printed
+  all_added : over ≡ true → Appends held' held″ out' → Appends held held″ (last_of (eaten_of s.input (opened desk))).printed
   all_added o w = rw ((at_the_end o).printed, last_printed (eaten_of s.input (opened desk))) at (more_added w)
 
-  ended : (wrote : Bool) → (wrote ≡ true → Appends held' held″ (take p out')) → ends over wrote ≡ true → Ended desk rest rest″ held held″ (record { station = k; over = over; read = read; wrote = wrote; reads = reads })
+  ended : (wrote : Bool) → (wrote ≡ true → Appends held' held″ out') → ends over wrote ≡ true → Ended desk rest rest″ held held″ (record { station = k; over = over; read = read; wrote = wrote; reads = reads })
   unfolding program_of
   ended wrote w e = go over refl
     where
@@ -274,7 +269,7 @@ module _
         written = λ q. absurd (not_written wrote (rw o at e) q);
       }
 
-  module _ (wrote : Bool) (w : wrote ≡ true → Appends held' held″ (take p out')) where
+  module _ (wrote : Bool) (w : wrote ≡ true → Appends held' held″ out') where
     pub ended_over : over ≡ true → Ended desk rest rest″ held held″ (record { station = k; over = over; read = read; wrote = wrote; reads = reads })
     ended_over o = ended wrote w (over_ends over wrote o)
 
@@ -283,10 +278,10 @@ module _
 
 -- no more reads are made
 pub no_more_reads :
-    (desk : Desk) (rest rest' held held' : Option (List ℕ)) (k : Station) (n : ℕ) (line out : List ℕ) (reads : ℕ) → Served desk rest rest' held held' k n line out reads → 18446744073709551615 ≤ reads →
+    (desk : Desk) (rest rest' held held' : Option (List ℕ)) (k : Station) (line : List ℕ) (reads : ℕ) → Served desk rest rest' held held' k line reads → 18446744073709551615 ≤ reads →
     Ended desk rest rest' held held' (record { station = k; over = false; read = true; wrote = true; reads = 18446744073709551615 })
 unfolding program_of
-no_more_reads desk rest rest' held held' k n line out reads s h = record {
+no_more_reads desk rest rest' held held' k line reads s h = record {
   input = s.input;
   station = s.stands.station;
   reads = let c = s.counted in omega arith;

@@ -3,7 +3,7 @@ use Rattle.std.specs.Prelude.{ℕ, ◌+◌, ◌*◌, ◌≤◌, min, ◌≡◌, 
 use Rattle.std.specs.Io.KnownBytes.{Appends, Consumes, IsAtEnd}
 use Rattle.desk.specs.declared.Desk.{Desk}
 use Rattle.station.specs.declared.Station.{Station}
-use Rattle.station.specs.Serve.{at_start, served_of, Manned}
+use Rattle.station.specs.Serve.{at_start, served_of}
 use Rattle.console.specs.declared.End.{End}
 use Rattle.console.specs.declared.Memory.{Memory}
 
@@ -52,39 +52,27 @@ nothing bytes = eqb (length bytes) 0
 unfoldable pub read_of : List ℕ → Program → Program
 read_of bytes p = if nothing bytes then last_of p else eaten_of bytes p
 
--- a line in its array: so many bytes of it; of one over 400 only that it is
-pub record Keeps (kept : List ℕ) (n : ℕ) (line : List ℕ) : Type 0 where
-  pub count : n ≡ min 401 (length kept)
-  pub bytes : length kept ≤ 400 → take n line ≡ kept
+-- of a line, what is kept: all of one of up to 400 bytes, and 401 bytes of a longer one, which tell that it is longer
+abbrev pub begun : List ℕ → List ℕ
+begun kept = take 401 kept
 
--- the array after more bytes
-pub record Gathers (more : List ℕ) (n : ℕ) (before : List ℕ) (r : ℕ) (after : List ℕ) : Type 0 where
-  pub long : length after ≡ 401
-  pub within : r ≤ 401
-  pub few : r ≤ n + length more
-  pub keeps : (kept : List ℕ) → Keeps kept n before → Keeps (kept ++ more) r after
-
--- the program's memory: a station, an array that begins with n bytes of a line, and one that begins with m bytes to be written
-abbrev pub memory : Station → ℕ → List ℕ → ℕ → List ℕ → Memory
-memory s n line m out = record { station = s; n = n; line = line; m = m; out = out }
+-- the program's memory: a station, what is kept of a line, and the bytes to be written
+abbrev pub memory : Station → List ℕ → List ℕ → Memory
+memory s line out = record { station = s; line = line; out = out }
 
 -- the same with nothing to be written
 abbrev pub emptied : Memory → Memory
-emptied a = memory a.station a.n a.line 0 a.out
+emptied a = memory a.station a.line []
 
 -- one that the program can come to
-pub record Sound (a : Memory) : Type 0 where
-  pub manned : Manned a.station
-  pub long : length a.line ≡ 401
-  pub within : a.n ≤ 401
-  pub size : length a.out ≡ 196608
-  pub filled : a.m ≤ 196608
+abbrev pub Sound : Memory → Type 0
+Sound a = length a.line ≤ 401
 
 -- one that stands for the program
 pub record Stands (p : Program) (a : Memory) : Type 0 where
   pub station : a.station ≡ p.station
-  pub keeps : Keeps p.kept a.n a.line
-  pub printed : take a.m a.out ≡ p.printed
+  pub keeps : a.line ≡ begun p.kept
+  pub printed : a.out ≡ p.printed
 
 -- the memory after bytes of the input, or after a line's end
 pub record Eats (next : Program → Program) (a b : Memory) : Type 0 where
@@ -94,7 +82,7 @@ pub record Eats (next : Program → Program) (a b : Memory) : Type 0 where
 -- a line's end, and the room that it takes: 80 bytes for each of the line and its LF, at most
 pub record Finishes (ended : Bool) (a b : Memory) : Type 0 where
   pub eats : Eats (ended_line ended) a b
-  pub room : b.m + 80 * b.n ≤ a.m + 80 * (a.n + 1)
+  pub room : length b.out + 80 * length b.line ≤ length a.out + 80 * (length a.line + 1)
 
 -- after a read, and whether the input is over
 pub record Reads (bytes : List ℕ) (a b : Memory) (over : Bool) : Type 0 where

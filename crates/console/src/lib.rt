@@ -2,22 +2,23 @@
 // What stays outside is the two standard streams: no contract can say which bytes a system gives or takes.
 #![tactic(auto)]
 
-ghost use Rattle.std.specs.Prelude.{◌≡◌, ◌+◌, ◌*◌, ◌≤◌, true, length, OnOk, IfSome};
+ghost use Rattle.std.specs.Prelude.{◌≡◌, ◌+◌, ◌*◌, ◌≤◌, true, [], length, OnOk, IfSome};
 ghost use Rattle.std.specs.Io.KnownBytes.{Appends};
-ghost use Rattle.console.specs.Eaten.{eaten_of, program_of, brought as Eaten·brought, emptied, read_of, Gathers, Sound, Eats, Finishes, SomeRead, Ended, Succeeded};
+ghost use Rattle.console.specs.Eaten.{eaten_of, program_of, brought as Eaten·brought, emptied, read_of, Sound, Eats, Finishes, SomeRead, Ended, Succeeded};
 
+mod bytes;
+
+use bytes::Bytes;
 use desk::Desk;
 use station::Station;
 use std::io::{self, Read, Write};
 
-// The program's memory: a station, a line's array with how many bytes are kept of the line that isn't complete yet, and the output's with how many are to be written.
+// The program's memory: a station, the line that isn't complete yet, and what is to be written. Of a line over 400 bytes the first 401 are kept: they tell that it is one.
 #[derive(Drop)]
 struct Memory {
     station: Station,
-    n: usize,
-    line: [u8; 401],
-    m: usize,
-    out: [u8; 196608],
+    line: Bytes<401>,
+    out: Bytes<196608>,
 }
 
 // Whether a read was the last, and whether it went well.
@@ -37,19 +38,6 @@ pub struct End {
     pub reads: u64,
 }
 
-// Bytes are kept behind those of a line kept before, as far as its array goes: 401 tell a line that is too long.
-#[tactic(auto, using(crate::proofs::Lines::sum_fits, crate::proofs::Lines::more_kept, crate::proofs::Lines::too_long))]
-fn gather(line: &mut [u8], kept: usize, bytes: &[u8]) -> usize
-    requires line_len { length line.old ≡ 401 }
-    requires kept_bound { kept ≤ 401 }
-    ensures { Gathers bytes.now kept line.old result line.new }
-{
-    match basics::lay(bytes, line, kept) {
-        Some(m) => kept + m,
-        None => 401,
-    }
-}
-
 // What a read left at the start of the chunk; one that failed brought nothing.
 #[tactic(auto, using(crate::proofs::Program::brought_some, crate::proofs::Program::brought_none))]
 fn brought<'a>(got: &io::Result<usize>, chunk: &'a [u8]) -> &'a [u8]
@@ -65,31 +53,27 @@ impl Memory {
     // A line that has ended is answered and nothing of it is kept; its answer is laid behind those before it.
     fn finish(&mut self, ended: bool)
         requires sound { Sound self.old }
-        requires room { self.old.m + 80 * (self.old.n + 1) ≤ 196608 }
+        requires room { length self.old.out + 80 * (length self.old.line + 1) ≤ 196608 }
         ensures { Finishes ended self.old self.new }
     {
         if ended {
-            let replied = self
-                .station
-                .answer(&self.line[..self.n], &mut self.out, self.m);
-            self.station = replied.station;
-            self.n = 0;
-            self.m = replied.end;
+            self.station = self.out.answer(self.station, self.line.as_slice());
+            self.line.clear();
         }
     }
 
-    // A chunk of the input, line by line. Each byte of a line, its LF too, makes for 80 bytes of output at most.
-    #[tactic(auto, using(crate::proofs::Lines::begins, crate::proofs::Lines::kept_long, crate::proofs::Lines::kept_within, crate::proofs::Lines::still_sound, crate::proofs::Lines::line_room))]
+    // A chunk of the input, line by line; a `split` at each LF would give a line more, behind the last of them. Each byte of a line, its LF too, makes for 80 bytes of output at most.
+    #[tactic(auto, using(crate::proofs::Lines::begins))]
     fn eat(&mut self, chunk: &[u8])
         requires sound { Sound self.old }
-        requires nothing_printed { self.old.m ≡ 0 }
+        requires nothing_printed { self.old.out ≡ [] }
         requires chunk_len_bound { length chunk.now ≤ 2048 }
         ensures { Eats (eaten_of chunk.now) self.old self.new }
     {
         let mut from = 0;
         while from < chunk.len() {
             let end = desk::line_end(chunk, from);
-            self.n = gather(&mut self.line, self.n, &chunk[from..end]);
+            self.line.put(&chunk[from..end]);
             self.finish(end < chunk.len());
             from = end + 1;
         }
@@ -101,9 +85,10 @@ impl Memory {
         requires bytes_len_bound { length bytes.now ≤ 2048 }
         ensures { Eats (read_of bytes.now) (emptied self.old) self.new }
     {
-        self.m = 0;
+        self.out.clear();
         if bytes.is_empty() {
-            self.finish(0 < self.n);
+            let begun = 0 < self.line.len();
+            self.finish(begun);
         } else {
             self.eat(bytes);
         }
@@ -140,14 +125,12 @@ pub fn serve<R: Read, W: Write>(desk: Desk, input: &mut R, output: &mut W) -> En
 {
     let mut memory = Memory {
         station: Station::new(desk),
-        n: 0,
-        line: [0; 401],
-        m: 0,
-        out: [0; 196608],
+        line: Bytes::new(),
+        out: Bytes::new(),
     };
     for reads in 0..u64::MAX {
         let Round { over, read } = memory.read_chunk(input);
-        let wrote = write_out(output, &memory.out[..memory.m]).is_ok();
+        let wrote = write_out(output, memory.out.as_slice()).is_ok();
         if over || !wrote {
             return End {
                 station: memory.station,

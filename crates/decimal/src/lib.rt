@@ -1,4 +1,4 @@
-// Numbers written in decimal into a buffer that the caller lends: whole, with one decimal, with three.
+// Numbers written in decimal into a buffer that the caller lends, from a place on, as `basics::lay` does: whole, with one decimal, with three.
 // How many digits a number has is found first; then each digit is written once, into its final place, from the rightmost.
 #![tactic(auto)]
 

@@ -424,7 +424,7 @@ printing_close κs args z z' ws ws' p q = lent (λ y. (tt, (y, (tt, tt)))) p.end
 
 -- station
 pub station_Station_new : Tight station.Station.new.Kinds.ps station.Station.new.Kinds.r station.Station.new.Reads.Learnt
-station_Station_new κs args z z' ws ws' p q = result p.is q.is
+station_Station_new κs args z z' ws ws' p q = result p q
 
 pub station_Station_answer : Tight station.Station.answer.Kinds.ps station.Station.answer.Kinds.r station.Station.answer.Reads.Learnt
 station_Station_answer κs args z z' ws ws' p q = record {

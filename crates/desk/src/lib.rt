@@ -43,6 +43,7 @@ enum Word {
 }
 
 // A frame, whose text stands behind the first two bytes; a number; the host's stop; raw bytes, which stand behind the first two; a wrong line.
+// `Wrong` is a case like the others and no missing answer: it is printed for in the same match as they are.
 #[derive(Clone, Copy)]
 pub enum Asked {
     Send,

@@ -12,10 +12,8 @@ fn say(out: Stdout, what: &str, n: u64) -> io::Result<()> {
 
 // Whether a range has a number.
 fn limit(out: Stdout, what: &str, range: Range, n: u32) -> io::Result<()> {
-    if range.has(n) {
-        return println!(out; "{what} {n} taken");
-    }
-    println!(out; "{what} {n} refused")
+    let verdict = if range.has(n) { "taken" } else { "refused" };
+    println!(out; "{what} {n} {verdict}")
 }
 
 // The same of every number from first to last.
@@ -27,38 +25,23 @@ fn limits(out: Stdout, what: &str, range: Range, first: u32, last: u32) -> io::R
 }
 
 fn quantity(out: Stdout, what: &str, of: Quantity, first: u32, last: u32) -> io::Result<()> {
-    let range = Settings::range(of);
-    limits(out, what, range, first, last)
+    limits(out, what, Settings::range(of), first, last)
 }
 
 fn speed(out: Stdout, what: &str, of: Pace, first: u32, last: u32) -> io::Result<()> {
-    let range = Settings::speeds(of);
-    limits(out, what, range, first, last)
+    limits(out, what, Settings::speeds(of), first, last)
 }
 
 fn flow(out: Stdout, what: &str, of: Pace, first: u32, last: u32) -> io::Result<()> {
-    let range = Settings::flows(of);
-    limits(out, what, range, first, last)
+    limits(out, what, Settings::flows(of), first, last)
 }
 
 fn usual(out: Stdout, what: &str, of: Quantity) -> io::Result<()> {
-    let n = Settings::usual(of);
-    say(out, what, n as u64)
+    say(out, what, u64::from(Settings::usual(of)))
 }
 
 fn usual_speed(out: Stdout, what: &str, of: Pace) -> io::Result<()> {
-    let n = Settings::usual_speed(of);
-    say(out, what, n as u64)
-}
-
-// A volume in millionths of an increment at C.
-fn millionths(amount: u32, micro: bool, rate: u32) -> u64 {
-    let volume = if micro {
-        Volume::Nanolitres(amount)
-    } else {
-        Volume::Increments(amount)
-    };
-    volume.millionths(rate)
+    say(out, what, u64::from(Settings::usual_speed(of)))
 }
 
 // W; A, P and D.
@@ -128,18 +111,18 @@ fn defaults(out: Stdout) -> io::Result<()> {
 
 // M, in ticks.
 fn delays(out: Stdout) -> io::Result<()> {
-    say(out, "M9 ticks", units::ticks(9) as u64)?;
-    say(out, "M14 ticks", units::ticks(14) as u64)?;
-    say(out, "M15 ticks", units::ticks(15) as u64)?;
-    say(out, "M30000 ticks", units::ticks(30000) as u64)
+    say(out, "M9 ticks", u64::from(units::ticks(9)))?;
+    say(out, "M14 ticks", u64::from(units::ticks(14)))?;
+    say(out, "M15 ticks", u64::from(units::ticks(15)))?;
+    say(out, "M30000 ticks", u64::from(units::ticks(30000)))
 }
 
 // nL a second and tenths.
 fn conversions(out: Stdout) -> io::Result<()> {
-    say(out, "V2.5,1 tenths", units::tenths(2_500) as u64)?;
-    say(out, "V2.503,1 tenths", units::tenths(2_503) as u64)?;
+    say(out, "V2.5,1 tenths", u64::from(units::tenths(2_500)))?;
+    say(out, "V2.503,1 tenths", u64::from(units::tenths(2_503)))?;
     say(out, "?19 nL/s", units::flow(1_001))?;
-    say(out, "V2000,1 tenths", units::tenths(2_000_000) as u64)
+    say(out, "V2000,1 tenths", u64::from(units::tenths(2_000_000)))
 }
 
 // How far after so many ticks.
@@ -147,50 +130,58 @@ fn movement(out: Stdout) -> io::Result<()> {
     say(
         out,
         "V155.5 gone after 1",
-        units::gone(1, 1_555, 1_000) as u64,
+        u64::from(units::gone(1, 1_555, 1_000)),
     )?;
     say(
         out,
         "V155.5 gone after 2",
-        units::gone(2, 1_555, 1_000) as u64,
+        u64::from(units::gone(2, 1_555, 1_000)),
     )?;
     say(
         out,
         "V155.5 gone after 3",
-        units::gone(3, 1_555, 1_000) as u64,
+        u64::from(units::gone(3, 1_555, 1_000)),
     )?;
     say(
         out,
         "V155.5 gone after 3 of 3",
-        units::gone(3, 1_555, 3) as u64,
+        u64::from(units::gone(3, 1_555, 3)),
     )
 }
 
 // C, and volumes at it.
 fn volumes(out: Stdout) -> io::Result<()> {
-    say(out, "b350 C", units::rate(350, false) as u64)?;
-    say(out, "b350,1 C", units::rate(350, true) as u64)?;
+    say(out, "b350 C", u64::from(units::rate(350, false)))?;
+    say(out, "b350,1 C", u64::from(units::rate(350, true)))?;
     say(
         out,
         "A1090.458,1 exact",
-        millionths(1_090_458, true, 40_350),
+        Volume::Nanolitres(1_090_458).millionths(40_350),
     )?;
     say(out, "its goal", units::goal(43_999_980_300))?;
     say(
         out,
         "A1090.459,1 exact",
-        millionths(1_090_459, true, 40_350),
+        Volume::Nanolitres(1_090_459).millionths(40_350),
     )
 }
 
 // Where an exact position puts the plunger.
 fn fractions(out: Stdout) -> io::Result<()> {
-    say(out, "P0.01,1 exact", millionths(10, true, 40_000))?;
+    say(
+        out,
+        "P0.01,1 exact",
+        Volume::Nanolitres(10).millionths(40_000),
+    )?;
     say(out, "its goal", units::goal(400_000))?;
     say(out, "five of them, the goal", units::goal(2_000_000))?;
     say(out, "goal of 499999", units::goal(499_999))?;
     say(out, "goal of 500000", units::goal(500_000))?;
-    say(out, "A1000 exact", millionths(1_000, false, 40_350))
+    say(
+        out,
+        "A1000 exact",
+        Volume::Increments(1_000).millionths(40_350),
+    )
 }
 
 // The plunger in nL.
@@ -200,19 +191,11 @@ fn reports(out: Stdout) -> io::Result<()> {
     say(out, "?3 at b350,1", units::nanolitres(44_000, 39_650))
 }
 
-// The first n bytes.
-fn front(out: Stdout, n: usize, buf: &[u8]) -> io::Result<()> {
-    if n <= buf.len() {
-        return out.write_all(&buf[..n]);
-    }
-    Ok(())
-}
-
 // A number written at the start of a buffer, or that there was no room.
 fn written(out: Stdout, what: &str, n: u64, decimals: Decimals, buf: &mut [u8]) -> io::Result<()> {
     print!(out; "{what} ")?;
-    match decimal::put(n, decimals, buf, 0) {
-        Some(size) => front(out, size, buf)?,
+    match decimal::put(n, decimals, buf, 0).and_then(|size| buf.get(..size)) {
+        Some(digits) => out.write_all(digits)?,
         None => print!(out; "no room")?,
     }
     println!(out)

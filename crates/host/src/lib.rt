@@ -17,7 +17,7 @@ use pipettor::address::Address;
 use pipettor::lent::{Parts, Spoke};
 use pipettor::{Controller, Said};
 
-// What no other answer is: the top bit is set.
+// What no other answer is: the top bit is set. Numbers, since C reads them.
 pub const S1: u64 = 9_223_372_036_854_775_809;
 
 pub const S2: u64 = 9_223_372_036_854_775_810;

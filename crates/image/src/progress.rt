@@ -80,6 +80,7 @@ impl From<State> for Progress {
 }
 
 impl Progress {
+    // `travel` and `search` read two structs out of the same numbers.
     fn travel(self) -> Travel
         ensures { result ≡ travel_by self }
     {

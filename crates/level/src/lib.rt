@@ -15,7 +15,7 @@ pub struct Search {
     pub count: u32,
 }
 
-// What a tick finds: too much pressure, the liquid, that there is no way left, or nothing yet.
+// What a tick finds: too much pressure, the liquid, that there is no way left, or nothing yet. Four ends of a tick, which no two of Option and Result would name more plainly.
 #[derive(Clone, Copy)]
 pub enum Finding {
     TooMuch,

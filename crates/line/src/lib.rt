@@ -78,7 +78,7 @@ pub fn printable(b: u8) -> bool
 }
 
 impl Line {
-    // The line before any byte.
+    // The line before any byte: no conversion, each framing has lines of its own.
     pub fn fresh(framing: Framing) -> Line
         ensures { result ≡ fresh_line framing }
     {
@@ -185,7 +185,7 @@ impl Framing {
         }
     }
 
-    // What ends an answer, from a place on; and where it ends.
+    // What ends an answer, from a place on; and where it ends. The buffer is lent, as for `basics::lay`.
     fn close(self, buf: &mut [u8], at: usize) -> usize
         requires { at + 3 ≤ length buf.old }
         ensures { Closed self at buf.old result buf.new }

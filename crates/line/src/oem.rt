@@ -115,7 +115,7 @@ impl Head {
 }
 
 impl Oem {
-    // One byte from the wire.
+    // One byte from the wire: one match, since a closure for each state would have to be named here too.
     #[tactic(auto, unfolding(crate::specs::Oem::hear_of))]
     pub fn hear(self, b: u8) -> Heard<Oem>
         ensures { result ≡ hear_of self b }

@@ -12,6 +12,7 @@ use command::Found;
 use command::refusal::{Refusal, Verdict};
 use motion::{Activity, Body, Effect, Sense};
 
+// `Valid` is a clause and no invariant of the type: `stop` and others promise something for any core.
 #[derive(Clone, Copy)]
 pub struct Core {
     pub body: Body,

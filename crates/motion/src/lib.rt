@@ -16,6 +16,7 @@ use level::{Finding, Search};
 use settings::{Aspect, Detection, Pace, Settings, Volume, units};
 
 // The exact position counts millionths of an increment.
+// `BodyOk` is a clause of those functions that need it, and no invariant of the type: `reset`, `cut` and others promise something for any body, and a type would ask them too.
 #[derive(Clone, Copy)]
 pub struct Body {
     pub exact: u64,
@@ -53,6 +54,7 @@ pub enum Activity {
 }
 
 // What a command that is taken does, or a tick of what is in progress: it goes on, has ended, or fails, with the body it leaves; or the host is asked to eject; or a loop begins or ends.
+// No Result: a run that fails leaves a body too, and the machine takes all six apart in one match.
 #[derive(Clone, Copy)]
 pub enum Effect {
     Goes(Body, Activity),
@@ -341,7 +343,7 @@ impl Body {
         self.zeroed(here, sense.felt())
     }
 
-    // What a command does.
+    // What a command does: one match, since a closure for each command would have to be named here too.
     #[tactic(auto, unfolding(crate::specs::Motion::effect_of))]
     pub fn effect(self, c: Command, sense: Sense) -> Effect
         requires { BodyOk self }
@@ -463,7 +465,7 @@ impl Body {
         here.found(sought.finding)
     }
 
-    // A tick of what is in progress.
+    // A tick of what is in progress: one match, as for a command.
     #[tactic(auto, unfolding(crate::specs::Motion::onward_of, crate::specs::Motion::carried))]
     pub fn onward(self, activity: Activity, sense: Sense) -> Effect
         requires { ActivityOk activity }

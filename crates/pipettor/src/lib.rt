@@ -20,6 +20,7 @@ use machine::{Device, S3, Turned};
 use motion::Sense;
 
 // The receiver's line and the frame in hand; the buffer, its text and the plunger.
+// `Valid` is a clause of `byte`, `tick`, `advance` and `run`, and no invariant of the type: `listen`, `framing`, `ready` and `stop` take any controller, and a type would ask it of them too.
 #[derive(Clone, Copy)]
 pub struct Controller {
     pub address: Address,

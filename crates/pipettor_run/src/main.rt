@@ -2,7 +2,6 @@
 #![tactic(auto)]
 
 ghost use Rattle.std.specs.Prelude.{◌≤◌};
-ghost use Rattle.pipettor.specs.Valid.{Valid};
 
 use line::Framing;
 use machine::S3;
@@ -10,6 +9,26 @@ use motion::Sense;
 use pipettor::address::{Address, S2};
 use pipettor::{Controller, Said};
 use std::io::{self, Stdout};
+use std::marker::Model;
+
+// A controller that came from making and earlier calls.
+#[derive(Clone, Copy)]
+struct Pipettor {
+    controller: Controller,
+}
+
+impl Model for Pipettor {
+    ghost use Rattle.pipettor.specs.declared.Controller.{Controller};
+    ghost use Rattle.pipettor.specs.Valid.{Valid};
+
+    ghost Value = { Controller };
+
+    ghost view = { λ p. p.controller };
+
+    ghost inverse = { λ c. record { controller = c } };
+
+    ghost invariant = { λ p. Valid p.controller };
+}
 
 // A byte as it is written here: what is no character by its name. LF, which a controller drops, is a new line.
 fn name(out: Stdout, b: u8) -> io::Result<()> {
@@ -42,23 +61,17 @@ fn told(out: Stdout, b: u8, said: Said, buf: &[u8]) -> io::Result<()> {
 
 // An answer's status byte and data.
 fn heart(out: Stdout, buf: &[u8], n: usize) -> io::Result<()> {
-    if n < 6 {
-        return Ok(());
+    if 6 <= n && n <= buf.len() {
+        out.write_all(&buf[2..n - 3])?;
     }
-    if buf.len() < n {
-        return Ok(());
-    }
-    let end = n - 3;
-    out.write_all(&buf[2..end])
+    Ok(())
 }
 
 // A byte in a line of them, and what was said to it: silence is worth a word at a CR.
 fn noted(out: Stdout, b: u8, said: Said, buf: &[u8]) -> io::Result<()> {
     match said {
+        Ok(None) if b == 13 => print!(out; " (silent)"),
         Ok(None) => {
-            if b == 13 {
-                return print!(out; " (silent)");
-            }
             if b == b'/' {
                 print!(out; "  ")?;
             }
@@ -73,53 +86,41 @@ fn noted(out: Stdout, b: u8, said: Said, buf: &[u8]) -> io::Result<()> {
 }
 
 // Where the plunger stands, and the exact position.
-fn place(out: Stdout, c: &Controller) -> io::Result<()> {
-    let body = c.device.core.body;
+fn place(out: Stdout, c: &Pipettor) -> io::Result<()> {
+    let body = c.controller.device.core.body;
     println!(out; ": plunger {}, exact {}", body.plunger, body.exact)
 }
 
 // A byte, with the buffer lent.
-fn lend(out: Stdout, c: &mut Controller, b: u8, buf: &mut [u8]) -> io::Result<()>
-    requires { Valid c.old }
-    ensures { Valid c.new }
-{
-    let reply = c.byte(b, buf);
-    *c = reply.controller;
+fn lend(out: Stdout, c: &mut Pipettor, b: u8, buf: &mut [u8]) -> io::Result<()> {
+    let reply = c.controller.byte(b, buf);
+    c.controller = reply.controller;
     told(out, b, reply.said, buf)
 }
 
 // A byte, with a buffer of n dots.
-fn give(out: Stdout, c: &mut Controller, b: u8, n: usize) -> io::Result<()>
-    requires valid { Valid c.old }
-    requires n_bound { n ≤ 40 }
-    ensures { Valid c.new }
+fn give(out: Stdout, c: &mut Pipettor, b: u8, n: usize) -> io::Result<()>
+    requires { n ≤ 40 }
 {
     let mut dots = [b'.'; 40];
     lend(out, c, b, &mut dots[..n])
 }
 
 // A byte in a line of them.
-fn note(out: Stdout, c: &mut Controller, b: u8) -> io::Result<()>
-    requires { Valid c.old }
-    ensures { Valid c.new }
-{
+fn note(out: Stdout, c: &mut Pipettor, b: u8) -> io::Result<()> {
     let mut buf = [b'.'; 32];
-    let reply = c.byte(b, &mut buf);
-    *c = reply.controller;
+    let reply = c.controller.byte(b, &mut buf);
+    c.controller = reply.controller;
     noted(out, b, reply.said, &buf)
 }
 
-fn tick(out: Stdout, c: &mut Controller) -> io::Result<()>
-    requires { Valid c.old }
-    ensures { Valid c.new }
-{
-    let ticked = c.tick(Sense::nothing());
-    *c = ticked.controller;
+fn tick(out: Stdout, c: &mut Pipettor) -> io::Result<()> {
+    c.controller = c.controller.tick(Sense::nothing()).controller;
     print!(out; "  tick")?;
     place(out, c)
 }
 
-// How bytes are given: in a line; each with a buffer of 32 dots, or of 40; or of 32, with a tick after each.
+// How bytes are given: in a line; each with a buffer of 32 dots, or of 40; or of 32, with a tick after each. A name for each, since all are asked for more than once.
 #[derive(Clone, Copy)]
 enum Way {
     Line,
@@ -128,10 +129,7 @@ enum Way {
     Ticking,
 }
 
-fn one(out: Stdout, c: &mut Controller, b: u8, way: Way) -> io::Result<()>
-    requires { Valid c.old }
-    ensures { Valid c.new }
-{
+fn one(out: Stdout, c: &mut Pipettor, b: u8, way: Way) -> io::Result<()> {
     match way {
         Way::Line => note(out, c, b),
         Way::Marked => give(out, c, b, 32),
@@ -143,10 +141,7 @@ fn one(out: Stdout, c: &mut Controller, b: u8, way: Way) -> io::Result<()>
     }
 }
 
-fn each(out: Stdout, c: &mut Controller, bytes: &[u8], way: Way) -> io::Result<()>
-    requires { Valid c.old }
-    ensures { Valid c.new }
-{
+fn each(out: Stdout, c: &mut Pipettor, bytes: &[u8], way: Way) -> io::Result<()> {
     for b in bytes {
         one(out, c, *b, way)?;
     }
@@ -154,28 +149,21 @@ fn each(out: Stdout, c: &mut Controller, bytes: &[u8], way: Way) -> io::Result<(
 }
 
 // Frames in a line, each with its answer's status byte and data.
-fn talk(out: Stdout, c: &mut Controller, bytes: &[u8]) -> io::Result<()>
-    requires { Valid c.old }
-    ensures { Valid c.new }
-{
+fn talk(out: Stdout, c: &mut Pipettor, bytes: &[u8]) -> io::Result<()> {
     each(out, c, bytes, Way::Line)
 }
 
-fn made(a: Address) -> Controller
-    ensures { Valid result }
-{
-    Controller::fresh(Framing::Dt, a)
+fn made(a: Address) -> Pipettor {
+    Pipettor {
+        controller: Controller::fresh(Framing::Dt, a),
+    }
 }
 
 // A frame but for its CR, by `listen`.
-fn begin(c: Controller, text: &[u8]) -> Controller
-    requires { Valid c }
-    ensures { Valid result }
-{
-    let started = c.listen(b"/");
-    let next = started.controller;
-    let heard = next.listen(text);
-    heard.controller
+fn begin(c: Pipettor, text: &[u8]) -> Pipettor {
+    Pipettor {
+        controller: c.controller.listen(b"/").controller.listen(text).controller,
+    }
 }
 
 // What a controller made with an address answers to f, at each digit.
@@ -243,12 +231,8 @@ fn noise(out: Stdout) -> io::Result<()> {
     )
 }
 
-fn wait(out: Stdout, c: &mut Controller, n: u32) -> io::Result<()>
-    requires { Valid c.old }
-    ensures { Valid c.new }
-{
-    let ticked = c.advance(n, Sense::nothing());
-    *c = ticked.controller;
+fn wait(out: Stdout, c: &mut Pipettor, n: u32) -> io::Result<()> {
+    c.controller = c.controller.advance(n, Sense::nothing()).controller;
     print!(out; "  ticks {n}")?;
     place(out, c)
 }
@@ -260,38 +244,26 @@ fn used(out: Stdout, n: u32, u: Result<u32, S3>) -> io::Result<()> {
     }
 }
 
-fn run(out: Stdout, c: &mut Controller, n: u32) -> io::Result<()>
-    requires { Valid c.old }
-    ensures { Valid c.new }
-{
-    let ran = c.run(n, Sense::nothing());
-    *c = ran.ticked.controller;
+fn run(out: Stdout, c: &mut Pipettor, n: u32) -> io::Result<()> {
+    let ran = c.controller.run(n, Sense::nothing());
+    c.controller = ran.ticked.controller;
     used(out, n, ran.used)
 }
 
 // As long as it runs, and where it then is.
-fn finish(out: Stdout, c: &mut Controller) -> io::Result<()>
-    requires { Valid c.old }
-    ensures { Valid c.new }
-{
+fn finish(out: Stdout, c: &mut Pipettor) -> io::Result<()> {
     run(out, c, 60_000)?;
     talk(out, c, b"/1?1\r/1Q\r\n")
 }
 
-fn stop(out: Stdout, c: &mut Controller) -> io::Result<()>
-    requires { Valid c.old }
-    ensures { Valid c.new }
-{
-    *c = c.stop();
+fn stop(out: Stdout, c: &mut Pipettor) -> io::Result<()> {
+    c.controller = c.controller.stop();
     print!(out; "  stop")?;
     place(out, c)
 }
 
 // A string, and ticks.
-fn method(out: Stdout, c: &mut Controller, frame: &[u8], ticks: u32) -> io::Result<()>
-    requires { Valid c.old }
-    ensures { Valid c.new }
-{
+fn method(out: Stdout, c: &mut Pipettor, frame: &[u8], ticks: u32) -> io::Result<()> {
     talk(out, c, frame)?;
     wait(out, c, ticks)
 }
@@ -299,14 +271,11 @@ fn method(out: Stdout, c: &mut Controller, frame: &[u8], ticks: u32) -> io::Resu
 // Frames with a tick after each of their bytes, while the plunger moves.
 fn ticking(
     out: Stdout,
-    c: &mut Controller,
+    c: &mut Pipettor,
     string: &[u8],
     ticks: u32,
     frames: &[u8],
-) -> io::Result<()>
-    requires { Valid c.old }
-    ensures { Valid c.new }
-{
+) -> io::Result<()> {
     method(out, c, string, ticks)?;
     each(out, c, frames, Way::Ticking)?;
     finish(out, c)
@@ -320,10 +289,7 @@ fn ticks_inside(out: Stdout) -> io::Result<()> {
 }
 
 // A report whose CR comes with buffers that are too short, and at last with one that is not.
-fn short_ends(out: Stdout, c: &mut Controller) -> io::Result<()>
-    requires { Valid c.old }
-    ensures { Valid c.new }
-{
+fn short_ends(out: Stdout, c: &mut Pipettor) -> io::Result<()> {
     println!(out; "  /1Q with buffers of 1, 31 and 32")?;
     *c = begin(*c, b"1Q");
     give(out, c, 13, 1)?;
@@ -332,9 +298,7 @@ fn short_ends(out: Stdout, c: &mut Controller) -> io::Result<()>
 }
 
 // What a controller answers in the state it is in, and that runs which are refused leave it there.
-fn ask(out: Stdout, mut c: Controller) -> io::Result<()>
-    requires { Valid c }
-{
+fn ask(out: Stdout, mut c: Pipettor) -> io::Result<()> {
     short_ends(out, &mut c)?;
     run(out, &mut c, 60_001)?;
     talk(out, &mut c, b"/1?29\r/1?67\r\n")?;
@@ -342,17 +306,13 @@ fn ask(out: Stdout, mut c: Controller) -> io::Result<()>
 }
 
 // What is left after a stop, and what R then does.
-fn stopped(out: Stdout, c: &mut Controller) -> io::Result<()>
-    requires { Valid c.old }
-{
+fn stopped(out: Stdout, c: &mut Pipettor) -> io::Result<()> {
     talk(out, c, b"/1?29\r/1?67\r/1?0\r/1?1\r/1Q\r/1R\r\n")?;
     finish(out, c)
 }
 
 // After a refused frame: stop leaves the last error, T clears it.
-fn stops(out: Stdout, mut c: Controller) -> io::Result<()>
-    requires { Valid c }
-{
+fn stops(out: Stdout, mut c: Pipettor) -> io::Result<()> {
     talk(out, &mut c, b"/1Z\r\n")?;
     let mut by_host = c;
     stop(out, &mut by_host)?;
@@ -362,18 +322,14 @@ fn stops(out: Stdout, mut c: Controller) -> io::Result<()>
 }
 
 // A frame and ticks; and then what the controller answers. Before the frame stands its name: outside a frame bytes are dropped.
-fn state(out: Stdout, ready: Controller, frame: &[u8], ticks: u32) -> io::Result<()>
-    requires { Valid ready }
-{
+fn state(out: Stdout, ready: Pipettor, frame: &[u8], ticks: u32) -> io::Result<()> {
     let mut c = ready;
     method(out, &mut c, frame, ticks)?;
     ask(out, c)?;
     stops(out, c)
 }
 
-fn ready_states(out: Stdout, c: Controller) -> io::Result<()>
-    requires { Valid c }
-{
+fn ready_states(out: Stdout, c: Pipettor) -> io::Result<()> {
     state(out, c, b"Empty\n/1C\r\n", 1)?;
     state(out, c, b"Stored\n/1A200\r\n", 1)?;
     state(out, c, b"Stopped\n/1A0A200R\r/1T\r\n", 1)?;
@@ -381,9 +337,7 @@ fn ready_states(out: Stdout, c: Controller) -> io::Result<()>
 }
 
 // Where a command is left, a stop makes Stopped; the loop counts are kept.
-fn running_states(out: Stdout, c: Controller) -> io::Result<()>
-    requires { Valid c }
-{
+fn running_states(out: Stdout, c: Pipettor) -> io::Result<()> {
     state(out, c, b"Running, initialising\n/1WR\r\n", 2)?;
     state(out, c, b"Running, initialising, P left\n/1WP5R\r\n", 2)?;
     state(out, c, b"Running, moving\n/1A44000R\r\n", 5)?;
@@ -408,9 +362,7 @@ fn states(out: Stdout) -> io::Result<()> {
 }
 
 // A P after a stop: 7 if it cut W.
-fn aspirate(out: Stdout, c: &mut Controller) -> io::Result<()>
-    requires { Valid c.old }
-{
+fn aspirate(out: Stdout, c: &mut Pipettor) -> io::Result<()> {
     method(out, c, b"/1P5R\r\n", 1)?;
     talk(out, c, b"/1Q\r/1Q1\r/1?67\r\n")?;
     finish(out, c)
@@ -430,10 +382,7 @@ fn cut_w(out: Stdout, ticks: u32) -> io::Result<()> {
 }
 
 // A frame and ticks, and what is reported of the settings after them.
-fn keeps(out: Stdout, c: &mut Controller, frame: &[u8], ticks: u32) -> io::Result<()>
-    requires { Valid c.old }
-    ensures { Valid c.new }
-{
+fn keeps(out: Stdout, c: &mut Pipettor, frame: &[u8], ticks: u32) -> io::Result<()> {
     method(out, c, frame, ticks)?;
     talk(
         out,
@@ -443,10 +392,7 @@ fn keeps(out: Stdout, c: &mut Controller, frame: &[u8], ticks: u32) -> io::Resul
 }
 
 // A string without R, then R, X and C.
-fn controls(out: Stdout, c: &mut Controller) -> io::Result<()>
-    requires { Valid c.old }
-    ensures { Valid c.new }
-{
+fn controls(out: Stdout, c: &mut Pipettor) -> io::Result<()> {
     keeps(out, c, b"/1P0.01,1\r\n", 1)?;
     keeps(out, c, b"/1R\r\n", 2)?;
     keeps(out, c, b"/1X\r\n", 2)?;

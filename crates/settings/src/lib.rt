@@ -54,6 +54,7 @@ pub enum Volume {
 }
 
 // What a search for the liquid goes by: p0 to p6, the speed in tenths of an increment a second.
+// The mode is a number like the other six: the table gives it a range and reports tell it.
 #[derive(Clone, Copy)]
 pub struct Detection {
     pub threshold: u32,
@@ -307,7 +308,7 @@ impl Settings {
         }
     }
 
-    // V, v or c in tenths of an increment a second.
+    // V, v or c in tenths of an increment a second. Beside `flows`, since 01 has a table for each unit.
     pub fn speeds(of: Pace) -> Range
         ensures { result ≡ speeds_of of }
     {

@@ -15,7 +15,7 @@ use Rattle.desk.specs.Hex.{byte_of, bytes_in}
 use Rattle.station.specs.declared.Station.{Station}
 use Rattle.station.specs.declared.Replied.{Replied}
 use Rattle.printing.specs.Print.{close_of, Prints}
-use Rattle.station.specs.Serve.{Served, served, said_to, silent, raw_from, raw_of, Manned, Replies}
+use Rattle.station.specs.Serve.{Served, served, said_to, silent, raw_from, raw_of, Replies}
 use Rattle.printing.proofs.Output.{both, nothing}
 
 -- the first byte of a text, and what follows it and a space
@@ -44,19 +44,15 @@ pub record Hearing (t : List ℕ) (first : Station) (start : ℕ) (before : List
   pub heard : ℕ
   pub within : 3 * heard ≤ length t + 1
   pub left : 0 < length rest → 3 * heard + length rest ≤ length t
-  pub manned : Manned s
   pub text : List ℕ
   pub prints : Prints (195 * heard) text start before at out
   pub same : raw_from (bytes_in rest) (served s text) ≡ raw_from (bytes_in t) (served first [])
 
 module _ (t : List ℕ) (first : Station) (start : ℕ) (before : List ℕ) where
-  pub listens : Manned first → Hearing t first start before first start t before
-  listens m = record { heard = 0; within = omega arith; left = λ h. omega arith; manned = m; text = []; prints = nothing 0 start before; same = refl }
+  pub listens : Hearing t first start before first start t before
+  listens = record { heard = 0; within = omega arith; left = λ h. omega arith; text = []; prints = nothing 0 start before; same = refl }
 
   module _ (s : Station) (at : ℕ) (rest out : List ℕ) (r : Hearing t first start before s at rest out) where
-    pub still_manned : Manned s
-    still_manned = r.manned
-
     -- so much was said that there is room for more
     pub close_room : start + 80 * (length t + 3) ≤ length before → at + 2 ≤ length out
     close_room h = let p = r.prints in let e = p.ends in let c = p.short in let l = p.long in let w = r.within in omega arith
@@ -87,7 +83,6 @@ module _ (t : List ℕ) (first : Station) (start : ℕ) (before : List ℕ) wher
             heard = suc r.heard;
             within = omega arith;
             left = λ k. omega (arith, k, long);
-            manned = p.again;
             text = r.text ++ (said_to b quiet s).text;
             prints = both (195 * r.heard) 195 (195 * suc r.heard) r.text (said_to b quiet s).text start at k.end before out after (omega arith) (omega (arith, r.prints.ends, r.prints.short)) r.prints p.prints;
             same = rw (p.is, told) (sym (rw step) ∙ r.same);
@@ -103,6 +98,5 @@ module _ (t : List ℕ) (first : Station) (start : ℕ) (before : List ℕ) wher
         let whole = both (195 * r.heard) 2 (80 * (length t + 3)) r.text (close_of quiet) start at end before out after (omega arith) (omega (arith, r.prints.ends, r.prints.short)) r.prints p in
         record {
           is = ap (λ (x : Served). x.station) e;
-          again = r.manned;
           prints = rw (← e) (rw (q ∙ none_said) at whole);
         }

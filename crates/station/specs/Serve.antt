@@ -200,15 +200,9 @@ pub record Manned (s : Station) : Type 0 where
   pub valid : Valid s.controller
   pub lend : s.lend ≤ 64
 
--- the first of them
-pub record Starts (desk : Desk) (r : Station) : Type 0 where
-  pub is : r ≡ at_start desk
-  pub manned : Manned r
-
 -- a byte heard
 pub record Tells (b : ℕ) (s : Station) (before : List ℕ) (r : Told) (left : List ℕ) : Type 0 where
   pub is : r.station ≡ after (told_of b before s) s
-  pub again : Manned r.station
   pub said : r.said ≡ (told_of b before s).reply.said
   pub buffer : left ≡ (told_of b before s).buffer
   pub long : length left ≡ length before
@@ -216,5 +210,4 @@ pub record Tells (b : ℕ) (s : Station) (before : List ℕ) (r : Told) (left : 
 -- what a line's function promises: the station left, and what is printed, of at most so many bytes
 pub record Replies (most : ℕ) (wanted : Served) (at : ℕ) (before : List ℕ) (r : Replied) (after : List ℕ) : Type 0 where
   pub is : r.station ≡ wanted.station
-  pub again : Manned r.station
   pub prints : Prints most wanted.text at before r.end after

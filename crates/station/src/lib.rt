@@ -1,5 +1,5 @@
 // A host's part: what a line of the bench program or of the training rig does to a controller, and what it prints.
-// The output is memory that the caller lends, and `Replies` names the place and the end, so that both stay arguments.
+// The output is memory that a caller lends, of any length and from any place on; an array of its own here would ask more of callers. So both stay arguments, and each function asks for the room that its text may take.
 #![tactic(auto)]
 
 ghost use Rattle.std.specs.Prelude.{◌≡◌, ◌+◌, ◌*◌, ◌≤◌, length, eqb, pos, neg_ℤ};
@@ -8,13 +8,14 @@ ghost use Rattle.desk.specs.Hex.{bytes_in};
 ghost use Rattle.pipettor.specs.Valid.{Valid};
 ghost use Rattle.pipettor.specs.Address.{address_of};
 ghost use Rattle.printing.specs.Print.{ended};
-ghost use Rattle.station.specs.Serve.{on, served, gone_on, ended_of, sent_of, Wrappable, Wraps, framed_by, framed_of, placed_of, shows_ask, waited_of, ran_of, halted_of, lent_of, tipped_of, pressed_of, made_by, numbered_of, said_to, raw_of, served_of, Manned, Starts, Tells, Replies};
+ghost use Rattle.station.specs.Serve.{at_start, on, served, gone_on, ended_of, sent_of, Wrappable, Wraps, framed_by, framed_of, placed_of, shows_ask, waited_of, ran_of, halted_of, lent_of, tipped_of, pressed_of, made_by, numbered_of, said_to, raw_of, served_of, Tells, Replies};
 
 use desk::{Asked, Desk, Quantity, hex};
 use line::Framing;
 use motion::Sense;
 use pipettor::address::Address;
 use pipettor::{Controller, S1, Said};
+use std::marker::Model;
 
 // Whose lines are taken, how many bytes the answer buffers have, what the host senses, and the controller.
 #[derive(Clone, Copy)]
@@ -23,6 +24,21 @@ pub struct Station {
     pub lend: usize,
     pub sense: Sense,
     pub controller: Controller,
+}
+
+// A contract reads the four; every station came from making and earlier lines.
+impl Model for Station {
+    ghost use Rattle.station.specs.Held.{Held};
+
+    ghost Value = { Held };
+
+    ghost use Rattle.station.specs.Serve.{station, Manned};
+
+    ghost view = { λ a. station a.desk a.lend a.sense a.controller };
+
+    ghost invariant = { λ a. Manned (station a.desk a.lend a.sense a.controller) };
+
+    ghost inverse = { λ s. record { desk = s.desk; lend = s.lend; sense = s.sense; controller = s.controller } };
 }
 
 // A station after a line, and where what the line prints ends.
@@ -65,7 +81,7 @@ impl Station {
     // "Address 1."
     #[tactic(auto, using(crate::proofs::Serving::starts))]
     pub fn new(desk: Desk) -> Station
-        ensures { Starts desk result }
+        ensures { result ≡ at_start desk }
     {
         Station {
             desk,
@@ -76,6 +92,7 @@ impl Station {
     }
 
     fn on(self, controller: Controller) -> Station
+        requires valid { Valid controller }
         ensures { result ≡ on controller self }
     {
         Station { controller, ..self }
@@ -84,7 +101,6 @@ impl Station {
     // A line that says no more than this.
     #[tactic(auto, using(crate::proofs::Serving::says))]
     fn says(self, text: &[u8], out: &mut [u8], at: usize) -> Replied
-        requires manned { Manned self }
         requires at_in_bounds { at + length text.now + 1 ≤ length out.old }
         ensures { Replies (length text.now + 1) (served self (ended text.now)) at out.old result out.new }
     {
@@ -96,7 +112,6 @@ impl Station {
 
     // A byte, with a buffer lent.
     fn tell(self, b: u8, buf: &mut [u8]) -> Told
-        requires { Manned self }
         ensures { Tells b self buf.old result buf.new }
     {
         let reply = self.controller.byte(b, buf);
@@ -109,12 +124,12 @@ impl Station {
     // The last byte of a frame, and what is answered.
     #[tactic(auto, using(crate::proofs::Serving::buffer_counted, crate::proofs::Serving::buffer_short))]
     fn finish(self, last: u8, out: &mut [u8], at: usize) -> Replied
-        requires manned { Manned self }
         requires at_in_bounds { at + 65 ≤ length out.old }
         ensures { Replies 65 (ended_of last self) at out.old result out.new }
     {
         let mut buf = [0u8; 64];
-        let lent = &mut buf[..self.lend];
+        let lend = self.lend;
+        let lent = &mut buf[..lend];
         let told = self.tell(last, lent);
         Replied {
             station: told.station,
@@ -123,9 +138,7 @@ impl Station {
     }
 
     // What follows a frame's first byte, and its last: no frame ends before that.
-    #[tactic(auto, using(crate::proofs::Serving::still_manned))]
     fn go_on(self, rest: &[u8], last: u8, out: &mut [u8], at: usize) -> Replied
-        requires manned { Manned self }
         requires at_in_bounds { at + 65 ≤ length out.old }
         ensures { Replies 65 (gone_on rest.now last self) at out.old result out.new }
     {
@@ -136,12 +149,12 @@ impl Station {
     // A frame: its first byte tells that a buffer is too short.
     #[tactic(auto, using(crate::proofs::Serving::buffer_counted))]
     fn send(self, first: u8, rest: &[u8], last: u8, out: &mut [u8], at: usize) -> Replied
-        requires manned { Manned self }
         requires at_in_bounds { at + 65 ≤ length out.old }
         ensures { Replies 65 (sent_of first rest.now last self) at out.old result out.new }
     {
         let mut buf = [0u8; 64];
-        let told = self.tell(first, &mut buf[..self.lend]);
+        let lend = self.lend;
+        let told = self.tell(first, &mut buf[..lend]);
         match told.said {
             Ok(_) => told.station.go_on(rest, last, out, at),
             Err(S1) => told.station.says(b"S1", out, at),
@@ -149,9 +162,8 @@ impl Station {
     }
 
     // An OEM frame, as `wrap` lays it, and the sum; a text without an address can't be sent.
-    #[tactic(auto, using(crate::proofs::Wrapping::all_there, crate::proofs::Wrapping::one_before, crate::proofs::Wrapping::counted))]
+    #[tactic(auto, using(crate::proofs::Wrapping::can_be_wrapped, crate::proofs::Wrapping::all_there, crate::proofs::Wrapping::one_before, crate::proofs::Wrapping::counted))]
     fn send_oem(self, text: &[u8], out: &mut [u8], at: usize) -> Replied
-        requires manned { Manned self }
         requires text_len_bound { length text.now ≤ 400 }
         requires at_in_bounds { at + 65 ≤ length out.old }
         ensures { Replies 65 (framed_by Framing.Oem text.now self) at out.old result out.new }
@@ -166,7 +178,6 @@ impl Station {
 
     // "sends `/`, the text, CR", or an OEM frame, as the controller was made.
     fn frame(self, text: &[u8], out: &mut [u8], at: usize) -> Replied
-        requires manned { Manned self }
         requires text_len_bound { length text.now ≤ 400 }
         requires at_in_bounds { at + 65 ≤ length out.old }
         ensures { Replies 65 (framed_of text.now self) at out.old result out.new }
@@ -179,7 +190,6 @@ impl Station {
 
     // Where the plunger is left, and whether a tick asked.
     fn place(self, controller: Controller, asked: bool, out: &mut [u8], at: usize) -> Replied
-        requires manned { Manned self }
         requires valid { Valid controller }
         requires at_in_bounds { at + 38 ≤ length out.old }
         ensures { Replies 38 (placed_of controller asked self) at out.old result out.new }
@@ -193,7 +203,6 @@ impl Station {
 
     #[tactic(auto, using(crate::proofs::Serving::waits))]
     fn wait(self, n: u32, out: &mut [u8], at: usize) -> Replied
-        requires manned { Manned self }
         requires at_in_bounds { at + 38 ≤ length out.old }
         ensures { Replies 38 (waited_of n self) at out.old result out.new }
     {
@@ -208,7 +217,6 @@ impl Station {
 
     // What a run used, and where it left the plunger.
     fn run(self, n: u32, out: &mut [u8], at: usize) -> Replied
-        requires manned { Manned self }
         requires at_in_bounds { at + 49 ≤ length out.old }
         ensures { Replies 49 (ran_of n self) at out.old result out.new }
     {
@@ -222,9 +230,8 @@ impl Station {
         }
     }
 
-    #[tactic(auto, using(crate::proofs::Serving::stopped_valid, crate::proofs::Serving::halts))]
+    #[tactic(auto, using(crate::proofs::Serving::halts))]
     fn stop(self, out: &mut [u8], at: usize) -> Replied
-        requires manned { Manned self }
         requires at_in_bounds { at + 38 ≤ length out.old }
         ensures { Replies 38 (halted_of self) at out.old result out.new }
     {
@@ -232,9 +239,7 @@ impl Station {
     }
 
     // Answer buffers of n bytes from now on.
-    #[tactic(auto, using(crate::proofs::Serving::lend_manned))]
     fn buffers(self, n: u32, out: &mut [u8], at: usize) -> Replied
-        requires manned { Manned self }
         requires n_bound { n ≤ 64 }
         requires at_in_bounds { at + 3 ≤ length out.old }
         ensures { Replies 3 (lent_of n self) at out.old result out.new }
@@ -247,9 +252,7 @@ impl Station {
     }
 
     // A tip from now on, or none.
-    #[tactic(auto, using(crate::proofs::Serving::sense_manned))]
     fn tip(self, n: u32, out: &mut [u8], at: usize) -> Replied
-        requires manned { Manned self }
         requires at_in_bounds { at + 3 ≤ length out.old }
         ensures { Replies 3 (tipped_of (eqb n 1) self) at out.old result out.new }
     {
@@ -261,9 +264,7 @@ impl Station {
     }
 
     // A reading from now on.
-    #[tactic(auto, using(crate::proofs::Serving::sense_manned))]
     fn press(self, reading: i32, out: &mut [u8], at: usize) -> Replied
-        requires manned { Manned self }
         requires at_in_bounds { at + 3 ≤ length out.old }
         ensures { Replies 3 (pressed_of reading self) at out.old result out.new }
     {
@@ -275,9 +276,7 @@ impl Station {
     }
 
     // A fresh controller, or S2 and the old one.
-    #[tactic(auto, using(crate::proofs::Serving::fresh_manned))]
     fn make(self, framing: Framing, n: u32, out: &mut [u8], at: usize) -> Replied
-        requires manned { Manned self }
         requires at_in_bounds { at + 3 ≤ length out.old }
         ensures { Replies 3 (made_by framing (address_of n) self) at out.old result out.new }
     {
@@ -290,7 +289,6 @@ impl Station {
 
     #[tactic(auto, using(crate::proofs::Serving::press_within, crate::proofs::Serving::minus_within, crate::proofs::Serving::lend_within))]
     fn number(self, q: Quantity, n: u32, out: &mut [u8], at: usize) -> Replied
-        requires manned { Manned self }
         requires n_bound { n ≤ most_of q }
         requires at_in_bounds { at + 65 ≤ length out.old }
         ensures { Replies 65 (numbered_of q n self) at out.old result out.new }
@@ -310,12 +308,12 @@ impl Station {
     // A raw byte, and what is said to it.
     #[tactic(auto, using(crate::proofs::Serving::buffer_counted, crate::proofs::Serving::buffer_short))]
     fn hear(self, b: u8, first: bool, out: &mut [u8], at: usize) -> Replied
-        requires manned { Manned self }
         requires at_in_bounds { at + 195 ≤ length out.old }
         ensures { Replies 195 (said_to b first self) at out.old result out.new }
     {
         let mut buf = [0u8; 64];
-        let lent = &mut buf[..self.lend];
+        let lend = self.lend;
+        let lent = &mut buf[..lend];
         let told = self.tell(b, lent);
         Replied {
             station: told.station,
@@ -324,9 +322,8 @@ impl Station {
     }
 
     // Bytes as two hex digits each, a space between two.
-    #[tactic(auto, using(crate::proofs::Raw::still_manned, crate::proofs::Raw::byte_room, crate::proofs::Raw::close_room))]
+    #[tactic(auto, using(crate::proofs::Raw::byte_room, crate::proofs::Raw::close_room))]
     fn raw(self, t: &[u8], out: &mut [u8], start: usize) -> Replied
-        requires manned { Manned self }
         requires t_len_bound { length t.now ≤ 400 }
         requires t_in_bounds { start + 80 * (length t.now + 3) ≤ length out.old }
         ensures { Replies (80 * (length t.now + 3)) (raw_of (bytes_in t.now) self) start out.old result out.new }
@@ -346,10 +343,9 @@ impl Station {
         }
     }
 
-    // A complete line.
+    // A complete line: one match, each case with an argument of its own.
     #[tactic(auto, using(crate::proofs::Serving::frame_starts, crate::proofs::Serving::frame_few, crate::proofs::Serving::bytes_start, crate::proofs::Serving::bytes_few, crate::proofs::Serving::bytes_fit, crate::proofs::Serving::number_within))]
     pub fn answer(self, line: &[u8], out: &mut [u8], at: usize) -> Replied
-        requires manned { Manned self }
         requires line_in_bounds { at + 80 * (length line.now + 1) ≤ length out.old }
         ensures { Replies (80 * (length line.now + 1)) (served_of line.now self) at out.old result out.new }
     {

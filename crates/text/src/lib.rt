@@ -29,6 +29,7 @@ pub enum Control {
 }
 
 // What data are. A text is their first `size` bytes, to be run or stored.
+// No Result: a wrong report, a wrong text and one that is too long each leave something else behind, in 01's words, and are told apart where the others are.
 #[derive(Clone, Copy)]
 pub enum Data {
     Report(Question),
@@ -50,7 +51,7 @@ pub fn check(t: &[u8]) -> Result<(), Misread>
     Ok(())
 }
 
-// Spaces dropped where they stand; how many bytes are left.
+// Spaces dropped where they stand; how many bytes are left. By index, since what is read and what is written are places of one array.
 pub fn squeeze(t: &mut [u8]) -> usize
     ensures { Squeezed t.old result t.new }
 {

@@ -28,27 +28,19 @@ fn control(out: Stdout, c: Control) -> io::Result<()> {
 
 fn refused(out: Stdout, r: Misread) -> io::Result<()> {
     match r {
-        Misread::Letter(at) => print!(out; "refused 2 at {at}"),
-        Misread::Operand { place, read: _ } => print!(out; "refused 3 at {place}"),
+        Misread::Letter(place) | Misread::Operand { place, .. } => {
+            print!(out; "refused {} at {place}", r.number())
+        }
     }
 }
 
 // Whether the loops are right of a text that stands in front.
 fn loops_of(out: Stdout, t: &[u8], size: usize) -> io::Result<()> {
-    if t.len() < size {
-        return Ok(());
+    match t.get(..size) {
+        Some(text) if loops::loops_ok(text, b"") => print!(out; ", loops right"),
+        Some(_) => print!(out; ", loops wrong"),
+        None => Ok(()),
     }
-    if loops::loops_ok(&t[..size], b"") {
-        return print!(out; ", loops right");
-    }
-    print!(out; ", loops wrong")
-}
-
-fn stored_or_run(out: Stdout, run: bool) -> io::Result<()> {
-    if run {
-        return print!(out; " to run");
-    }
-    print!(out; " to store")
 }
 
 // Data as received; their spaces are dropped where they stand.
@@ -68,8 +60,8 @@ fn tell(out: Stdout, t: &[u8], data: Data) -> io::Result<()> {
         Data::WrongReport => print!(out; "wrong report"),
         Data::Control(c) => control(out, c),
         Data::Text { size, run } => {
-            print!(out; "text of {size}")?;
-            stored_or_run(out, run)?;
+            let purpose = if run { "run" } else { "store" };
+            print!(out; "text of {size} to {purpose}")?;
             loops_of(out, t, size)
         }
         Data::Wrong(r) => refused(out, r),
@@ -85,6 +77,7 @@ fn line(out: Stdout, t: &mut [u8]) -> io::Result<()> {
     println!(out)
 }
 
+// A `split` at each LF would give a line more, behind the last of them.
 fn lines(out: Stdout, t: &mut [u8]) -> io::Result<()> {
     let mut from = 0;
     while from < t.len() {

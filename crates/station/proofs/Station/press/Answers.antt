@@ -5,4 +5,4 @@ use Rattle.station.proofs.Station.press.Goals as goal
 ruleset laws = (rules, pressed_so)
 
 pub returns : goal.returns
-returns c = search laws
+returns c = rw (← c.self.view_is) (search laws)

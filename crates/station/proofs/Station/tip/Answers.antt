@@ -5,4 +5,4 @@ use Rattle.station.proofs.Station.tip.Goals as goal
 ruleset laws = (rules, sensed_so)
 
 pub returns : goal.returns
-returns c = search laws
+returns c = rw (← c.self.view_is) (search laws)
