@@ -1,6 +1,6 @@
 -- Laws of `specs/Eaten`: a line in its array, a line's end, and a chunk line by line.
 use mathlib.Core.Path.{◌≡◌, refl, sym, ap, subst, ◌∙◌}
-use mathlib.Core.Bool.{Bool, true, false, false≢true}
+use mathlib.Core.Bool.{Bool, true, false}
 use mathlib.Core.List.{List, [], ◌∷◌, ◌++◌, append-nil, append_assoc}
 use Prim.Native.Nat.{ℕ, suc, ◌+◌, ◌-◌, ◌*◌, ◌≤◌, ◌<◌}
 use native.Mathlib.Omega.{arith}
@@ -8,7 +8,7 @@ use borrow.Author.Tests.{leb-true, leb-false, ltb-false, lt-ltb}
 use lib.Dec.{leb, ltb, eqb}
 use lib.ListN.{length, take, drop, length-append, length-take, length-drop, drop_of_length-le}
 use lib.Seq.{take_all, take-append-le, drop-drop, length-take-le}
-use Rattle.std.specs.Prelude.{if◌then◌else◌, None, Option, Some}
+use Rattle.std.specs.Prelude.{if◌then◌else◌}
 use Rattle.basics.proofs.Choice.{by}
 use Rattle.basics.proofs.Rules.{by_order}
 use Rattle.desk.specs.Desk.{line_of, LineEnd}

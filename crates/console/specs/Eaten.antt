@@ -1,5 +1,5 @@
 -- 01, "The bench program": "It reads lines, ended by LF or the input's end"; the rig too. What the bytes of the input do and print, how the program keeps them, and what it comes to.
-use Rattle.std.specs.Prelude.{ℕ, ◌+◌, ◌*◌, ◌≤◌, min, ◌≡◌, Bool, true, not, ◌||◌, List, [], ◌∷◌, ◌++◌, eqb, leb, ltb, Option, Result, Ok, Err, length, take, if◌then◌else◌}
+use Rattle.std.specs.Prelude.{ℕ, ◌+◌, ◌*◌, ◌≤◌, ◌≡◌, Bool, true, not, ◌||◌, List, [], ◌∷◌, ◌++◌, eqb, leb, ltb, Option, Result, Ok, Err, length, take, if◌then◌else◌}
 use Rattle.std.specs.Io.KnownBytes.{Appends, Consumes, IsAtEnd}
 use Rattle.desk.specs.declared.Desk.{Desk}
 use Rattle.station.specs.declared.Station.{Station}

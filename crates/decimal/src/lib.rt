@@ -39,7 +39,7 @@ fn length_of(n: u64) -> usize
     }
 }
 
-// The last k digits of n, the last of them just before `end`.
+// The last k digits of n, the last of them just before `end`. By index, from the right, as the definition `last_digits` takes them.
 fn put_last(k: usize, n: u64, buf: &mut [u8], end: usize)
     requires { (k ≤ end) × (end ≤ length buf.old) }
     ensures { buf.new ≡ over (last_digits k n) (end - k) buf.old }

@@ -11,9 +11,8 @@ use lib.Seq.{take_at}
 use Rattle.std.specs.Prelude.{Err, None, Ok, Option, Result, Some}
 use Rattle.text.specs.declared.Data.{Data}
 use Rattle.pipettor.specs.declared.address.S2.{S2}
-use Rattle.pipettor.specs.Said.{Said, s1, s2}
+use Rattle.pipettor.specs.Said.{Said}
 use Rattle.machine.specs.declared.S3.{S3}
-use Rattle.machine.specs.Used.{s3}
 use Rattle.command.specs.Verdict.{Verdict}
 use Rattle.basics.specs.Bytes.{chars, point, digit, every}
 use Rattle.basics.specs.Lay.{over}

@@ -126,6 +126,9 @@ pub operand_extent : Tight operand.extent.Kinds.ps operand.extent.Kinds.r operan
 operand_extent κs args z z' ws ws' p q = result p q
 
 -- command
+pub command_Letter_from : Tight command.LetterFromU8.from.Kinds.ps command.LetterFromU8.from.Kinds.r command.LetterFromU8.from.Reads.Learnt
+command_Letter_from κs args z z' ws ws' p q = result p q
+
 pub command_refusal_Misread_number : Tight command.refusal.Misread.number.Kinds.ps command.refusal.Misread.number.Kinds.r command.refusal.Misread.number.Reads.Learnt
 command_refusal_Misread_number κs args z z' ws ws' p q = result p q
 
@@ -291,6 +294,9 @@ machine_tip_after κs args z z' ws ws' p q = result p q
 
 pub machine_step_Core_ready : Tight machine.step.Core.ready.Kinds.ps machine.step.Core.ready.Kinds.r machine.step.Core.ready.Reads.Learnt
 machine_step_Core_ready κs args z z' ws ws' p q = result p q
+
+pub machine_step_News_none : Tight machine.step.News.none.Kinds.ps machine.step.News.none.Kinds.r machine.step.News.none.Reads.Learnt
+machine_step_News_none κs args z z' ws ws' p q = result p q
 
 pub machine_step_run : Tight machine.step.run.Kinds.ps machine.step.run.Kinds.r machine.step.run.Reads.Learnt
 machine_step_run κs args z z' ws ws' p q = result p q

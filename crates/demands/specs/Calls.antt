@@ -2,7 +2,6 @@
 use Rattle.std.specs.Prelude.{ℕ, List, [], ◌∷◌, ◌++◌, replicate, Err, Ok, Result}
 use Rattle.pipettor.specs.Said.{Said}
 use Rattle.machine.specs.declared.S3.{S3}
-use Rattle.machine.specs.Used.{s3}
 use Rattle.line.specs.declared.Framing.{Framing}
 use Rattle.motion.specs.declared.Sense.{Sense}
 use Rattle.motion.specs.Events.{Event, Turn, quiet}

@@ -1,7 +1,7 @@
 -- 02, W-204: what a rack may rely on whose OEM line is noisy, and what it may not. Of the receiver first, and then of the controller.
 use Rattle.std.specs.Prelude.{ℕ, ◌≤◌, ◌≡◌, true, false, List, [], ◌∷◌, ◌++◌, map, length, take, drop, replicate, Err, None, Ok, Some}
 use Prim.Native.String.{String}
-use Rattle.pipettor.specs.Said.{Said, s1}
+use Rattle.pipettor.specs.Said.{Said}
 use Rattle.basics.specs.Bytes.{chars}
 use Rattle.line.specs.declared.Framing.TheVariants.{Oem}
 use Rattle.line.specs.Bytes.{printable}

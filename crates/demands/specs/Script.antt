@@ -1,8 +1,7 @@
 -- Scripts, as one would type them at the bench: frames with what they answer, ticks with where the plunger then is, runs with their count. Who plays them is the definition, or a program.
 use Rattle.std.specs.Prelude.{ℕ, ◌-◌, Bool, true, false, ◌&&◌, List, [], ◌∷◌, ◌++◌, map, eqb, take, drop, replicate, ℤ, pos, if◌then◌else◌, Err, None, Ok, Some}
 use Prim.Native.String.{String}
-use Rattle.pipettor.specs.Said.{Said, s1}
-use Rattle.machine.specs.Used.{s3}
+use Rattle.pipettor.specs.Said.{Said}
 use Rattle.basics.specs.Bytes.{chars}
 use Rattle.line.specs.declared.Framing.TheVariants.{Dt}
 use Rattle.line.specs.Wire.{dt, framed}

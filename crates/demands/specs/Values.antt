@@ -2,9 +2,8 @@
 use Rattle.std.specs.Prelude.{ℕ, ◌-◌, Err, None, Ok, Result, Some}
 use Rattle.pipettor.specs.declared.address.S2.{S2}
 use Rattle.pipettor.specs.declared.address.Address.{Address}
-use Rattle.pipettor.specs.Said.{Said, s1, s2}
+use Rattle.pipettor.specs.Said.{Said}
 use Rattle.machine.specs.declared.S3.{S3}
-use Rattle.machine.specs.Used.{s3}
 use Rattle.pipettor.specs.Address.{letter_of}
 
 -- silence; a number; or the refusal S with its number

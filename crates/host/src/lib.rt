@@ -28,6 +28,7 @@ pub const BROKEN: u64 = 9_223_372_036_854_776_064;
 
 pub const UNFRAMED: u64 = 9_223_372_036_854_776_065;
 
+// The header's numbers, since C hands them over: a function, as neither `Framing` nor a number is this crate's.
 #[tactic(auto, unfolding(crate::specs::Host::framing_of))]
 fn framing_of(n: u32) -> Option<Framing>
     ensures { result ≡ framing_of n }
@@ -39,6 +40,7 @@ fn framing_of(n: u32) -> Option<Framing>
     }
 }
 
+// The header's number of an address.
 fn address_number(a: Address) -> u8
     ensures { result ≡ address_number a }
 {
@@ -416,7 +418,7 @@ pub fn pipettor_stop(
     0
 }
 
-// Where the plunger is, in increments.
+// Where the plunger is, in increments. This and the next three are one statement each behind a test; a function that takes it as a closure would be as long.
 #[tactic(auto, unfolding(crate::specs::Host::tell_in, crate::specs::Host::pose_read))]
 pub fn pipettor_plunger(wide: &[u64; 8], words: &[u32; 26], small: &[u8; 4]) -> u64
     ensures { result ≡ plunger_in wide.now words.now small.now }

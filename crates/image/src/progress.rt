@@ -80,7 +80,7 @@ impl From<State> for Progress {
 }
 
 impl Progress {
-    // `travel` and `search` read two structs out of the same numbers.
+    // `travel` and `search` give two types: one function that gives either would be no plainer.
     fn travel(self) -> Travel
         ensures { result ≡ travel_by self }
     {

@@ -97,7 +97,7 @@ impl Line {
         }
     }
 
-    // One byte from the wire.
+    // One byte from the wire. Two cases of one form, each with a receiver of its own type.
     #[tactic(auto, unfolding(crate::specs::Wire::hear_of))]
     pub fn hear(self, b: u8) -> Heard<Line>
         ensures { result ≡ hear_of self b }

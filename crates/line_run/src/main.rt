@@ -37,10 +37,7 @@ fn show_all(out: Stdout, bytes: &[u8]) -> io::Result<()> {
 
 // The first n bytes, or all where there are fewer.
 fn show_first(out: Stdout, n: usize, bytes: &[u8]) -> io::Result<()> {
-    if n <= bytes.len() {
-        return show_all(out, &bytes[..n]);
-    }
-    show_all(out, bytes)
+    show_all(out, &bytes[..n.min(bytes.len())])
 }
 
 fn tell_frame(out: Stdout, address: u8, count: usize, frame: &[u8; 320]) -> io::Result<()> {
@@ -158,14 +155,10 @@ fn row(out: Stdout, line: Line, from: u8) -> io::Result<()> {
 
 // All byte values on a line, a row for each thirty-two.
 fn table(out: Stdout, line: Line) -> io::Result<()> {
-    row(out, line, 0)?;
-    row(out, line, 32)?;
-    row(out, line, 64)?;
-    row(out, line, 96)?;
-    row(out, line, 128)?;
-    row(out, line, 160)?;
-    row(out, line, 192)?;
-    row(out, line, 224)
+    for k in 0..8 {
+        row(out, line, k * 32)?;
+    }
+    Ok(())
 }
 
 fn tell_said(out: Stdout, said: Option<usize>) -> io::Result<()> {
@@ -177,10 +170,7 @@ fn tell_said(out: Stdout, said: Option<usize>) -> io::Result<()> {
 
 // An answer into the first n bytes of a buffer.
 fn answer_first(n: usize, buf: &mut [u8]) -> Option<usize> {
-    if n <= buf.len() {
-        return line::answer(Framing::Dt, 96, Report::Whole(44000), &mut buf[..n]);
-    }
-    None
+    line::answer(Framing::Dt, 96, Report::Whole(44000), buf.get_mut(..n)?)
 }
 
 fn show_buffer(out: Stdout, buf: &[u8; 33]) -> io::Result<()> {

@@ -13,7 +13,7 @@ use buffer::course::{Course, Loops, State};
 use motion::{Body, Sense};
 use step::{Core, News, Stepped};
 
-// The text's array stands beside the state, since a host lends it; and whether the last tick saw a tip.
+// The text's array stands beside the state, since a host lends it; and whether the last tick saw a tip. `Valid` is a clause, as for a core: `stop` and `ready` promise something for any device.
 #[derive(Clone, Copy)]
 pub struct Device {
     pub text: [u8; 256],

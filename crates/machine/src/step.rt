@@ -122,8 +122,8 @@ impl Core {
         Stepped {
             core: self,
             news: News {
-                failed: Ok(()),
                 eject: true,
+                ..News::none()
             },
         }
     }

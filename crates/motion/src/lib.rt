@@ -41,7 +41,7 @@ pub struct Sense {
     pub reading: i32,
 }
 
-// What is in progress. A delay has so many ticks left. B moves to where it begins, with the reading that is the zero, and then searches. The host was asked to eject the tip, and the next tick judges it.
+// What is in progress. A delay has so many ticks left. B moves to where it begins, with the reading that is the zero, and then searches. `ActivityOk` is a clause where it is needed: `moves` and `between` are asked of any. The host was asked to eject the tip, and the next tick judges it.
 #[derive(Clone, Copy)]
 pub enum Activity {
     Initialising(Travel),

@@ -33,7 +33,7 @@ fn give(r: Receiver, b: u8) -> Receiver {
 // Numbers that look like chance, the same in every run: the i-th of a seed.
 fn chance(seed: u32, i: usize) -> u32 {
     let place = (i % 4096) as u64;
-    let x = ((seed as u64) * 1_000_003 + place * 7_919) % 4_294_967_291;
+    let x = (u64::from(seed) * 1_000_003 + place * 7_919) % 4_294_967_291;
     let y = x * 40_503 % 4_294_967_291;
     (y / 977) as u32
 }
@@ -68,11 +68,7 @@ fn sent(seed: u32, n: usize, i: usize) -> u8 {
 
 // The bytes of a frame up to a place.
 fn hear_frame(start: Receiver, seed: u32, n: usize, end: usize) -> Receiver {
-    let mut r = start;
-    for i in 0..end {
-        r = give(r, sent(seed, n, i));
-    }
-    r
+    (0..end).fold(start, |r, i| give(r, sent(seed, n, i)))
 }
 
 // One byte of a damaged frame: changed, lost, or with another before it.
@@ -99,46 +95,33 @@ fn hear_damaged(start: Receiver, seed: u32, n: usize, at: usize, end: usize) -> 
 }
 
 fn hear_noise(start: Receiver, seed: u32, n: usize) -> Receiver {
-    let mut r = start;
-    for i in 0..n {
-        r = give(r, any_byte(seed, i));
-    }
-    r
+    (0..n).fold(start, |r, i| give(r, any_byte(seed, i)))
 }
 
 // What a receiver has in hand: to whom, and how many data bytes, 321 for more than 320.
-fn address_in(line: Dt) -> u8 {
+fn in_hand(line: Dt) -> Option<(u8, usize)> {
     match line {
-        Dt::Outside | Dt::Started => 0,
-        Dt::Collecting(address, _) => address,
-    }
-}
-
-fn count_in(line: Dt) -> usize {
-    match line {
-        Dt::Outside | Dt::Started => 0,
-        Dt::Collecting(_, count) => count as usize,
+        Dt::Outside | Dt::Started => None,
+        Dt::Collecting(address, count) => Some((address, count as usize)),
     }
 }
 
 // Whether the first n bytes, 320 at most, are the same, and those that were sent.
 fn same_data(a: &[u8; 320], b: &[u8; 320], seed: u32, n: usize) -> bool {
-    for i in 0..n.min(320) {
-        if a[i] != b[i] || a[i] != data_byte(seed, i + 2) {
-            return false;
-        }
-    }
-    true
+    (0..n.min(320)).all(|i| a[i] == b[i] && a[i] == data_byte(seed, i + 2))
 }
 
 // Whether two receivers have the same whole frame in hand, as it was sent.
 fn alike(r: Receiver, s: Receiver, seed: u32) -> bool {
-    let address = address_in(r.line);
-    let n = count_in(r.line);
-    address == address_in(s.line)
-        && address == data_byte(seed, 1)
-        && n == count_in(s.line)
-        && same_data(&r.frame, &s.frame, seed, n)
+    match (in_hand(r.line), in_hand(s.line)) {
+        (Some((address, n)), Some((other, m))) => {
+            address == other
+                && address == data_byte(seed, 1)
+                && n == m
+                && same_data(&r.frame, &s.frame, seed, n)
+        }
+        _ => false,
+    }
 }
 
 // Noise or a damaged frame.

@@ -34,6 +34,7 @@ pub struct Single {
     pub read: usize,
 }
 
+// Two fields and no array: the definitions of the command table name each.
 #[derive(Clone, Copy)]
 pub struct Pair {
     pub first: Number,

@@ -35,7 +35,7 @@ fn fetch(frame: &mut [u8], n: usize) -> Data
     text::read(&frame[..kept])
 }
 
-// What a byte has brought: no frame to us, or its data.
+// What a byte has brought: no frame to us, or its data. A test inside the case: with a guard a frame that isn't to us would need a case of its own.
 pub fn get(frame: &mut [u8], deed: Deed, ours: u8) -> Option<Data>
     requires { length frame.old ≡ 320 }
     ensures { Gotten ours deed frame.old result frame.new }
@@ -148,7 +148,7 @@ pub fn outcome(
     Some(answer_to(got?, address, verdict, tip, c))
 }
 
-// Into the lent buffer.
+// Into the lent buffer. Both cases are named: `.map(Some).ok_or(S1)` would say less plainly which is which.
 pub fn say(outcome: Option<(Report, u8)>, framing: Framing, ready: bool, buf: &mut [u8]) -> Said
     ensures { Spoken framing outcome ready buf.old result buf.new }
 {

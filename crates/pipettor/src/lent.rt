@@ -12,7 +12,7 @@ use line::Line;
 use machine::act::Done;
 use machine::step::Core;
 
-// A controller without its arrays.
+// A controller without its arrays. `Valid` is a clause here too, as for a controller.
 #[derive(Clone, Copy)]
 pub struct Parts {
     pub address: Address,

@@ -1,5 +1,5 @@
 // What lines print: laid into the output from a place on. Each function says where it ends.
-// The output is memory that a caller lends, of any length and from any place on; an array of its own here would ask more of callers. So both stay arguments.
+// The output is memory that a caller lends, of any length and from any place on; an array of its own here would ask more of callers. So both stay arguments. That an answer has 64 bytes at most is a clause too: it is a lent slice, of which no type says that.
 #![tactic(auto)]
 
 ghost use Rattle.std.specs.Prelude.{◌+◌, ◌*◌, ◌^◌, ◌≤◌, ◌<◌, ◌++◌, length};

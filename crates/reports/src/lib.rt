@@ -112,7 +112,7 @@ fn value(n: u32, tip: bool, b: Body, state: State) -> Option<Report>
         3 => volume(b.plunger, b.settings.rate),
         4..=20 => return setting(n, b.settings),
         29 => Report::Whole(busy_in(state)),
-        31 => Report::Whole(if tip { 1 } else { 0 }),
+        31 => Report::Whole(u32::from(tip)),
         32..=38 => return aspect(n, b.settings.detection),
         67 => Report::Whole(text_in(state)),
         _ => return None,

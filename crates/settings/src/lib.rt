@@ -308,7 +308,7 @@ impl Settings {
         }
     }
 
-    // V, v or c in tenths of an increment a second. Beside `flows`, since 01 has a table for each unit.
+    // V, v or c in tenths of an increment a second. Beside `flows`: one function for both tables would take a flag for the unit and be as long.
     pub fn speeds(of: Pace) -> Range
         ensures { result ≡ speeds_of of }
     {

@@ -128,7 +128,7 @@ impl Station {
         ensures { Replies 65 (ended_of last self) at out.old result out.new }
     {
         let mut buf = [0u8; 64];
-        let lend = self.lend;
+        let lend = self.lend; // A variable: of a value with a model, a field can't bound a part yet.
         let lent = &mut buf[..lend];
         let told = self.tell(last, lent);
         Replied {
@@ -153,7 +153,7 @@ impl Station {
         ensures { Replies 65 (sent_of first rest.now last self) at out.old result out.new }
     {
         let mut buf = [0u8; 64];
-        let lend = self.lend;
+        let lend = self.lend; // A variable: of a value with a model, a field can't bound a part yet.
         let told = self.tell(first, &mut buf[..lend]);
         match told.said {
             Ok(_) => told.station.go_on(rest, last, out, at),
@@ -162,7 +162,7 @@ impl Station {
     }
 
     // An OEM frame, as `wrap` lays it, and the sum; a text without an address can't be sent.
-    #[tactic(auto, using(crate::proofs::Wrapping::can_be_wrapped, crate::proofs::Wrapping::all_there, crate::proofs::Wrapping::one_before, crate::proofs::Wrapping::counted))]
+    #[tactic(auto, using(crate::proofs::Wrapping::all_there, crate::proofs::Wrapping::one_before, crate::proofs::Wrapping::counted))]
     fn send_oem(self, text: &[u8], out: &mut [u8], at: usize) -> Replied
         requires text_len_bound { length text.now ≤ 400 }
         requires at_in_bounds { at + 65 ≤ length out.old }
@@ -288,6 +288,7 @@ impl Station {
     }
 
     #[tactic(auto, using(crate::proofs::Serving::press_within, crate::proofs::Serving::minus_within, crate::proofs::Serving::lend_within))]
+    // One match, as for a line.
     fn number(self, q: Quantity, n: u32, out: &mut [u8], at: usize) -> Replied
         requires n_bound { n ≤ most_of q }
         requires at_in_bounds { at + 65 ≤ length out.old }
@@ -312,7 +313,7 @@ impl Station {
         ensures { Replies 195 (said_to b first self) at out.old result out.new }
     {
         let mut buf = [0u8; 64];
-        let lend = self.lend;
+        let lend = self.lend; // A variable: of a value with a model, a field can't bound a part yet.
         let lent = &mut buf[..lend];
         let told = self.tell(b, lent);
         Replied {

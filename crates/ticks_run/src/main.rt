@@ -25,7 +25,7 @@ fn method() -> Controller
     end_frame(fresh.listen(b"/1Wv100V100gA44000A0G0R").controller)
 }
 
-// Two loops, and no one that takes a closure: what is counted is the call alone.
+// Two loops of a line each: a function that takes the call as a closure would have to ask `Valid` of it, and be longer than both.
 fn ticks(start: Controller) -> Controller
     requires { Valid start }
     ensures { Valid result }
