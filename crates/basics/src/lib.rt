@@ -23,6 +23,9 @@ pub fn lay(bytes: &[u8], buf: &mut [u8], at: usize) -> Option<usize>
     if room < size {
         return None;
     }
-    buf[at..at + size].copy_from_slice(bytes);
+    // Byte by byte: a copy of a slice calls `memmove`, and a host in C has memcpy and memset and nothing else.
+    for i in 0..size {
+        buf[at + i] = bytes[i];
+    }
     Some(size)
 }
