@@ -76,7 +76,8 @@ fn line_read(line: &[u8; 4], count: &[u32; 1]) -> Option<Line>
     }
 }
 
-// The device but its text, if what is read is one's, written just so.
+// The device but its text, if what is read is one's, written just so. Laid out at each place: a `Pose` that is handed back is copied whole, twice.
+#[inline(always)]
 #[tactic(auto, unfolding(crate::specs::Host::pose_read))]
 fn pose_read(wide: &[u64; 8], words: &[u32; 26], small: &[u8; 4]) -> Option<Pose>
     ensures is { result ≡ pose_read wide.now words.now small.now }
