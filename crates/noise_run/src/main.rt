@@ -66,9 +66,11 @@ fn sent(seed: u32, n: usize, i: usize) -> u8 {
     data_byte(seed, i)
 }
 
-// The bytes of a frame up to a place.
+// The bytes of a frame up to a place. A `fold` would move the receiver, with its frame, into the closure and back for each.
 fn hear_frame(start: Receiver, seed: u32, n: usize, end: usize) -> Receiver {
-    (0..end).fold(start, |r, i| give(r, sent(seed, n, i)))
+    let mut r = start;
+    (0..end).for_each(|i| r = give(r, sent(seed, n, i)));
+    r
 }
 
 // One byte of a damaged frame: changed, lost, or with another before it.
@@ -95,7 +97,9 @@ fn hear_damaged(start: Receiver, seed: u32, n: usize, at: usize, end: usize) -> 
 }
 
 fn hear_noise(start: Receiver, seed: u32, n: usize) -> Receiver {
-    (0..n).fold(start, |r, i| give(r, any_byte(seed, i)))
+    let mut r = start;
+    (0..n).for_each(|i| r = give(r, any_byte(seed, i)));
+    r
 }
 
 // What a receiver has in hand: to whom, and how many data bytes, 321 for more than 320.
