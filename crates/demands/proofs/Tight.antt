@@ -106,6 +106,9 @@ settings_Settings_aspects κs args z z' ws ws' p q = result p q
 pub settings_Settings_usual_aspect : Tight settings.Settings.usual_aspect.Kinds.ps settings.Settings.usual_aspect.Kinds.r settings.Settings.usual_aspect.Reads.Learnt
 settings_Settings_usual_aspect κs args z z' ws ws' p q = result p q
 
+pub settings_Detection_default : Tight settings.DetectionDefault.default.Kinds.ps settings.DetectionDefault.default.Kinds.r settings.DetectionDefault.default.Reads.Learnt
+settings_Detection_default κs args z z' ws ws' p q = result p q
+
 pub settings_Detection_with : Tight settings.Detection.with.Kinds.ps settings.Detection.with.Kinds.r settings.Detection.with.Reads.Learnt
 settings_Detection_with κs args z z' ws ws' p q = result p q
 
