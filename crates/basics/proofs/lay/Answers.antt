@@ -3,7 +3,7 @@ use Rattle.std.specs.Prelude.{Option, Some, None}
 use native.Mathlib.Numerals.{add-one}
 use borrow.Author.Tests.{le-leb, lt-leb}
 use lib.ListN.{get_or, length-set}
-use lib.Seq.{paste-zero, paste-suc, take-length}
+use lib.Seq.{paste-suc, take-length}
 use Rattle.basics.specs.Lay.{Laid, over, fits, laid_in}
 use Rattle.basics.proofs.lay.Goals as goal
 use Rattle.basics.proofs.lay.Invariants.{Copied}
@@ -12,9 +12,6 @@ module _ (xs : List ℕ) (at : ℕ) (buf : List ℕ) where
   none : (r : Option ℕ) → r ≡ None → (at + length xs ≤ length buf → ⊥) → Laid xs at buf r buf
   unfolding fits laid_in
   none r e h = let f = lt-leb (at + length xs) (length buf) (omega arith) in record { said = rw (e, f); left = rw f }
-
-  start : Copied xs at buf buf 0
-  start = record { same = paste-zero buf at xs; long = refl }
 
   module _ (now : List ℕ) (i : ℕ) (l : Copied xs at buf now i) (f : at + length xs ≤ length buf) where
     again : i < length xs → Copied xs at buf (set now (at + i) (get_or xs i 0)) (i + 1)
